@@ -1,0 +1,12 @@
+pub mod FirstOf
+pub mod Spaces
+pub mod Accepted
+pub mod Units
+pub mod Listing
+pub mod Running
+pub mod Bounds
+pub mod Closed
+pub mod Parts
+pub mod Which
+pub mod Answers
+pub mod Turns

@@ -1,0 +1,80 @@
+-- `whole::read_field` meets its contract.
+-- Assumes nothing.
+use mathlib.Core.Path.{refl}
+use native.Mathlib.Omega.{arith}
+use lib.ListN.{length}
+use denote.Ref.{now}
+use Rattle.field_unit.proofs.Answers.{accepted, read-refused, read-done}
+use Rattle.field_unit.proofs.Which.{ordered, small, read-count}
+use Rattle.field_unit.specs.Calls.{reading}
+use Rattle.field_unit.proofs.Accepted.{facts}
+use borrow.Author.Needs.{needs}
+use Rattle.field_unit.proofs.whole.read_field.Statement.{statement}
+use Rattle.field_unit.proofs.whole.read_field.Tie as tie
+
+check-field-requires : tie.Need-check-field-requires
+check-field-requires c κs = search needs
+
+enum-known-checked : tie.Need-enum-known-checked
+enum-known-checked c = search needs
+
+enum-told : tie.Need-enum-told
+enum-told c = search needs
+
+last-unit-requires : tie.Need-last-unit-requires
+last-unit-requires c κs =
+    let a = c .before .before .before .before .args in
+    let o = reading (a .field) in
+    accepted o (length (now (a .region))) (c .before .before .check-field .ensures) (c .enum-told .given .1)
+
+first-unit-requires : tie.Need-first-unit-requires
+first-unit-requires c κs =
+    let a = c .before .before .before .before .before .args in
+    let o = reading (a .field) in
+    let f = facts o (length (now (a .region))) (accepted o (length (now (a .region))) (c .before .before .before .check-field .ensures) (c .before .enum-told .given .1)) in omega arith
+
+sub-count : tie.Need-sub-count
+sub-count c =
+    let a = c .before .before .before .before .before .before .args in
+    let o = reading (a .field) in
+    let k = accepted o (length (now (a .region))) (c .before .before .before .before .check-field .ensures) (c .before .before .enum-told .given .1) in let q = ordered o (length (now (a .region))) k in omega (arith, c .first-unit .ensures, c .before .last-unit .ensures)
+
+add-count : tie.Need-add-count
+add-count c =
+    let a = c .before .before .before .before .before .before .args in
+    let o = reading (a .field) in
+    let k = accepted o (length (now (a .region))) (c .before .before .before .before .check-field .ensures) (c .before .before .enum-told .given .1) in let q = small o (length (now (a .region))) k in omega (arith, c .first-unit .ensures, c .before .last-unit .ensures)
+
+read-units-requires : tie.Need-read-units-requires
+read-units-requires c κs =
+    let a = c .before .before .before .before .before .before .args in
+    let o = reading (a .field) in
+    (refl, accepted o (length (now (a .region))) (c .before .before .before .before .check-field .ensures) (c .before .before .enum-told .given .1))
+
+returns : tie.Need-returns
+returns c =
+    let a = c .before .before .before .before .before .before .before .args in
+    let o = reading (a .field) in
+    let k = accepted o (length (now (a .region))) (c .before .before .before .before .before .check-field .ensures) (c .before .before .before .enum-told .given .1) in
+    read-done (now (a .region)) (a .field) (c .before .before .before .before .before .check-field .ensures) _ _ (c .before .before .before .enum-told .given .1) (c .read-units .ensures) (read-count o (length (now (a .region))) k (c .before .first-unit .ensures) (c .before .before .last-unit .ensures) refl)
+
+returns-2 : tie.Need-returns-2
+returns-2 c =
+    let a = c .before .before .before .before .before .args in
+    let o = reading (a .field) in
+    read-refused (now (a .region)) (a .field) (c .before .before .before .check-field .ensures) _ (c .before .checked .given .1)
+
+pub read-field-spec : {M : Type 1} → statement M
+read-field-spec =
+    tie.close
+    (tie.spec
+    check-field-requires
+    enum-known-checked
+    enum-told
+    last-unit-requires
+    first-unit-requires
+    sub-count
+    add-count
+    read-units-requires
+    returns
+    returns-2)

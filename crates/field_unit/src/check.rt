@@ -1,0 +1,112 @@
+// The checks of a field unit, in document 01's order: 27, 9, 28, 29, 21, 22.
+ghost use mathlib.Core.Bool.{_&&_, _||_};
+ghost use mathlib.Core.Path.{_≡_};
+ghost use Prim.Native.Nat.{_≤_};
+ghost use lib.Dec.{ltb, eqb};
+ghost use Rattle.types.specs.Refusals.{firstOf};
+ghost use Rattle.field_unit.specs.Checks.{supported, narrow, badFlags, outside, placeChecks, fieldChecks};
+use types::flags::FieldFlags;
+use types::refusal::Outcome;
+use types::refusal::Refusal;
+use types::value::FieldUnit;
+use types::value::RegionSpace;
+
+// 9
+fn bad_flags(flags: FieldFlags, write: bool) -> bool
+    ensures { λ r. ⌜ r ≡ badFlags write (flags .0) ⌝ }
+{
+    if 6 <= flags.0 % 16 {
+        return true;
+    }
+    if write {
+        return flags.0 / 32 % 4 == 3;
+    }
+    false
+}
+
+// 28
+fn is_supported(space: RegionSpace) -> bool
+    ensures { λ r. ⌜ r ≡ supported space ⌝ }
+{
+    match space {
+        RegionSpace::SystemMemory => true,
+        RegionSpace::SystemIo => true,
+        RegionSpace::PciConfig => true,
+        _ => false,
+    }
+}
+
+fn is_narrow(space: RegionSpace) -> bool
+    ensures { λ r. ⌜ r ≡ narrow space ⌝ }
+{
+    match space {
+        RegionSpace::SystemIo => true,
+        RegionSpace::PciConfig => true,
+        _ => false,
+    }
+}
+
+// 29
+fn is_too_wide(width: u64, space: RegionSpace) -> bool
+    ensures { λ r. ⌜ r ≡ (eqb width 64 && narrow space) ⌝ }
+{
+    if width == 64 {
+        return is_narrow(space);
+    }
+    false
+}
+
+// 22. The sum of offset and length is not bounded, so it is formed only where it fits.
+fn is_outside(width: u64, offset: u64, length: u64, size: u64) -> bool
+    requires { ⌜ (8 ≤ width) × (width ≤ 64) × (1 ≤ length) × (size ≤ 65536) ⌝ }
+    ensures { λ r. ⌜ r ≡ outside width offset length size ⌝ }
+{
+    let bits = 8 * size;
+    if bits < length {
+        return true;
+    }
+    if bits - length < offset {
+        return true;
+    }
+    let last = (offset + length - 1) / width;
+    bits < last * width + width
+}
+
+// Whether a read or a write of the field is accepted, in a region of size bytes.
+pub fn check_field(field: FieldUnit, write: bool, size: u64) -> Outcome
+    ensures { λ r. ⌜ r ≡ firstOf (fieldChecks write field size) ⌝ }
+{
+    let flags = field.flags;
+    let space = field.space;
+    if 65536 < size {
+        return Outcome::Refused(Refusal::TooManyBytes);
+    }
+    if bad_flags(flags, write) {
+        return Outcome::Refused(Refusal::InvalidFieldFlags);
+    }
+    if !is_supported(space) {
+        return Outcome::Refused(Refusal::UnsupportedRegionSpace);
+    }
+    let width = flags.access_width();
+    if is_too_wide(width, space) {
+        return Outcome::Refused(Refusal::QWordAccessInSpace);
+    }
+    check_place(width, field.offset, field.length, size)
+}
+
+// 21, then 22.
+fn check_place(width: u64, offset: u64, length: u64, size: u64) -> Outcome
+    requires { ⌜ (8 ≤ width) × (width ≤ 64) × (size ≤ 65536) ⌝ }
+    ensures { λ r. ⌜ r ≡ firstOf (placeChecks width offset length size) ⌝ }
+{
+    if length == 0 {
+        return Outcome::Refused(Refusal::FieldUnitLength);
+    }
+    if 64 < length {
+        return Outcome::Refused(Refusal::FieldUnitLength);
+    }
+    if is_outside(width, offset, length, size) {
+        return Outcome::Refused(Refusal::FieldUnitOutsideRegion);
+    }
+    Outcome::Done
+}

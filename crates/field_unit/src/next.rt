@@ -1,0 +1,99 @@
+// The next single access of an operation, found by how many were made: only the first and the last unit can take two.
+ghost use mathlib.Core.Bool.{cond};
+ghost use mathlib.Core.Path.{_≡_};
+ghost use Prim.Native.Nat.{_<_};
+ghost use lib.ListN.{length};
+ghost use Rattle.field_unit.specs.Calls.{countOf, accessAt, Accepted, count, nextAccess, stepped};
+use crate::access::Access;
+use crate::access::FieldOp;
+use crate::access::act;
+use crate::access::first_unit;
+use crate::access::is_partly;
+use crate::access::last_unit;
+use crate::check::check_field;
+use crate::whole::UnitWritten;
+use types::refusal::Outcome;
+use types::refusal::Refusal;
+
+// What is held after an access; or that there is none left.
+pub enum Accessed {
+    Held(u64),
+    Over,
+    Refused(Refusal),
+}
+
+fn one_if(b: bool) -> u64
+    ensures { λ r. ⌜ r ≡ cond b 1 0 ⌝ }
+{
+    if b { 1 } else { 0 }
+}
+
+// How many loads and stores the operation makes.
+fn total(op: FieldOp, size: usize) -> u64
+    requires { ⌜ Accepted op size ⌝ }
+    ensures { λ r. ⌜ r ≡ countOf op ⌝ }
+{
+    let first = first_unit(op);
+    let last = last_unit(op, size);
+    let n = last - first + 1 + one_if(is_partly(op, first, size));
+    if first == last {
+        return n;
+    }
+    n + one_if(is_partly(op, last, size))
+}
+
+// Access k: those before the last unit stand one behind the other, a second access at the first unit moves them up by one.
+fn access_at(op: FieldOp, k: u64, size: usize) -> Access
+    requires { ⌜ (Accepted op size) × (k < countOf op) ⌝ }
+    ensures { λ r. ⌜ r ≡ accessAt op k ⌝ }
+{
+    let first = first_unit(op);
+    let last = last_unit(op, size);
+    let lead = one_if(is_partly(op, first, size));
+    if !op.write {
+        return Access::Load(first + k);
+    }
+    if k < lead {
+        return Access::Load(first);
+    }
+    let u = first + (k - lead);
+    if last < u {
+        return Access::Store(last);
+    }
+    if u == last {
+        if first < last {
+            if is_partly(op, last, size) {
+                return Access::Load(last);
+            }
+        }
+    }
+    Access::Store(u)
+}
+
+// How many loads and stores the operation makes on a region of size bytes.
+pub fn count_accesses(op: FieldOp, size: u64) -> UnitWritten
+    ensures { λ r. ⌜ r ≡ count op size ⌝ }
+{
+    let field = op.field;
+    let checked = check_field(field, op.write, size);
+    if let Outcome::Refused(r) = checked {
+        return UnitWritten::Refused(r);
+    }
+    UnitWritten::Count(total(op, size as usize))
+}
+
+// Makes access made of the operation, counted from 0, with what the loads before it hold.
+pub fn next_access(op: FieldOp, made: u64, held: u64, region: &mut [u8]) -> Accessed
+    ensures { λ r. ⌜ stepped r (now (region .exit)) ≡ nextAccess (now (region .entry)) op made held ⌝ }
+{
+    let field = op.field;
+    let checked = check_field(field, op.write, region.len() as u64);
+    if let Outcome::Refused(r) = checked {
+        return Accessed::Refused(r);
+    }
+    if total(op, region.len()) <= made {
+        return Accessed::Over;
+    }
+    let a = access_at(op, made, region.len());
+    Accessed::Held(act(op, a, region, held))
+}
