@@ -1,0 +1,4 @@
+pub mod Conversions
+pub mod Integers
+pub mod Status
+pub mod FieldWrites
