@@ -1,0 +1,14 @@
+pub mod FieldUnits
+pub mod Checks
+pub mod Judging
+pub mod Malformed
+pub mod Answers
+pub mod Accepted
+pub mod Calls
+pub mod Sound
+pub mod Moves
+pub mod Together
+pub mod Absent
+pub mod Premise
+pub mod Examples
+pub mod Held

@@ -1,0 +1,125 @@
+// Malformed tables: a region length over 65,536, a busy task that no start would have accepted or that is past its end, a wrong holder.
+ghost use mathlib.Core.Path.{_≡_};
+ghost use Prim.Native.Nat.{_<_};
+ghost use Rattle.task.specs.Tasks as T;
+use crate::table::Table;
+use crate::table::Task;
+use field_unit::access::FieldOp;
+use field_unit::next::count_accesses;
+use field_unit::whole::UnitWritten;
+
+pub(crate) fn carries_lock(op: FieldOp) -> bool
+    ensures { λ r. ⌜ r ≡ T.carriesLock op ⌝ }
+{
+    let field = op.field;
+    let flags = field.flags;
+    flags.lock_rule()
+}
+
+// A busy lock-rule task with an access made.
+fn locks(k: Task) -> bool
+    ensures { λ r. ⌜ r ≡ T.locks k ⌝ }
+{
+    let op = k.op;
+    if k.busy {
+        if carries_lock(op) {
+            return 0 < k.made;
+        }
+    }
+    false
+}
+
+// A busy task whose field fails the start checks, or whose accesses made reach its total.
+fn bad_task(size: u64, k: Task) -> bool
+    ensures { λ r. ⌜ r ≡ T.badTask size k ⌝ }
+{
+    let op = k.op;
+    if !k.busy {
+        return false;
+    }
+    let counted = count_accesses(op, size);
+    match counted {
+        UnitWritten::Count(n) => n <= k.made,
+        UnitWritten::Refused(_) => true,
+    }
+}
+
+fn is_bad_at(table: Table, task: usize) -> bool
+    requires { ⌜ task < 4 ⌝ }
+    ensures { λ r. ⌜ r ≡ T.badTask (table .size) (T.taskAt table task) ⌝ }
+{
+    let k = table.tasks[task];
+    bad_task(table.size, k)
+}
+
+fn locks_at(table: Table, task: usize) -> bool
+    requires { ⌜ task < 4 ⌝ }
+    ensures { λ r. ⌜ r ≡ T.locks (T.taskAt table task) ⌝ }
+{
+    let k = table.tasks[task];
+    locks(k)
+}
+
+// Does the holder differ from the one task of the four that has the lock?
+fn is_wrong_holder(a: bool, b: bool, c: bool, d: bool, holder: u64) -> bool
+    ensures { λ r. ⌜ r ≡ T.wrongHolder (T.numbersOf a b c d) holder ⌝ }
+{
+    if a {
+        if b {
+            return true;
+        }
+        if c {
+            return true;
+        }
+        if d {
+            return true;
+        }
+        return holder != 0;
+    }
+    if b {
+        if c {
+            return true;
+        }
+        if d {
+            return true;
+        }
+        return holder != 1;
+    }
+    if c {
+        if d {
+            return true;
+        }
+        return holder != 2;
+    }
+    if d {
+        return holder != 3;
+    }
+    holder != 4
+}
+
+impl Table {
+    pub fn is_malformed(self) -> bool
+        ensures { λ r. ⌜ r ≡ T.malformed self ⌝ }
+    {
+        if 65536 < self.size {
+            return true;
+        }
+        if is_bad_at(self, 0) {
+            return true;
+        }
+        if is_bad_at(self, 1) {
+            return true;
+        }
+        if is_bad_at(self, 2) {
+            return true;
+        }
+        if is_bad_at(self, 3) {
+            return true;
+        }
+        let a = locks_at(self, 0);
+        let b = locks_at(self, 1);
+        let c = locks_at(self, 2);
+        let d = locks_at(self, 3);
+        is_wrong_holder(a, b, c, d, self.holder)
+    }
+}
