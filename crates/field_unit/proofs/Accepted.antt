@@ -1,10 +1,8 @@
 -- What an accepted operation is known by: no check of it holds, so each test is false, and a false test is a fact on numbers. The rest is
 -- arithmetic with the last unit's end inside the region.
 -- Assumes nothing.
-use mathlib.Core.Path.{_≡_, refl, sym, ap, _∙_}
+use mathlib.Core.Path.{_≡_, refl}
 use mathlib.Core.Bool.{Bool, true, false, _||_, _&&_, not}
-use mathlib.Core.List.{List, [], _∷_}
-use mathlib.Core.Logic.{_⊎_, inl, inr, ⊎-elim}
 use Prim.Native.Nat.{ℕ, _+_, _-_, _*_, _/_, _≤_, _<_}
 use native.Mathlib.Nat.{lt-div-mul-add, div-mul-le-self, mul-le-mul-right, le-div-iff-mul-le}
 use native.Mathlib.Omega.{arith}
@@ -14,7 +12,6 @@ use Rattle.types.specs.Flags.{accessBits, ruleBits, accessWidth}
 use Rattle.types.specs.Refusals.{firstOf}
 use Rattle.types.specs.declared.refusal.Outcome.the-variants as O
 use Rattle.types.specs.declared.refusal.Refusal.the-variants as R
-use Rattle.types.specs.declared.value.FieldUnit.{FieldUnit}
 use Rattle.types.proofs.Widths.{Width, width-is, width-bounds, width-bytes}
 use Rattle.field_unit.specs.Checks.{badFlags, supported, narrow, outside, placeChecks, fieldChecks, firstUnit, lastUnit}
 use Rattle.field_unit.specs.Calls.{Accepted}
@@ -124,3 +121,14 @@ inside op size u e a b =
     let f = facts op size e in
     let i = unit-inside (accessWidth (op .field .flags .0)) (op .field .offset) (op .field .length) u (omega arith) (omega arith) a b in
     record { meets = i .0; starts = i .1; ends = omega arith }
+
+-- the same for the width as the code holds it
+pub facts-at : (op : FieldOp) (size w : ℕ) → Accepted op size → w ≡ accessWidth (op .field .flags .0)
+    → Facts (op .write) (op .field .flags .0) w (op .field .offset) (op .field .length) size
+facts-at op size w ok e = rw e (facts op size ok)
+
+pub inside-at : (op : FieldOp) (size u w : ℕ) → Accepted op size → w ≡ accessWidth (op .field .flags .0)
+    → firstUnit (accessWidth (op .field .flags .0)) (op .field .offset) ≤ u
+    → u ≤ lastUnit (accessWidth (op .field .flags .0)) (op .field .offset) (op .field .length)
+    → Inside w (op .field .offset) (op .field .length) size u
+inside-at op size u w ok e a b = rw e (inside op size u ok a b)

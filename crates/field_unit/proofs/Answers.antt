@@ -12,7 +12,7 @@ use Rattle.types.specs.declared.refusal.Refusal.{Refusal}
 use Rattle.types.specs.declared.refusal.Outcome.{Outcome}
 use Rattle.types.specs.declared.refusal.Outcome.the-variants as O
 use Rattle.types.specs.declared.value.FieldUnit.{FieldUnit}
-use Rattle.field_unit.specs.Accesses.{Progress, progress, act, whole}
+use Rattle.field_unit.specs.Accesses.{progress, act, whole}
 use Rattle.field_unit.specs.Calls.{planOf, reading, writing, countOf, checked, Accepted, count, readField, Wrote, wrote, writeField, accessAt, Stepped, stepped, held, nextAccess}
 use Rattle.field_unit.specs.declared.access.FieldOp.{FieldOp}
 use Rattle.field_unit.specs.declared.whole.UnitRead.the-variants as UR

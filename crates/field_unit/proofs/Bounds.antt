@@ -1,9 +1,9 @@
 -- How many accesses there can be. A field of at most 64 bits in units of at least 8 spans at most nine of them, and a write adds one for the
 -- first unit and one for the last: a read makes at most 9, a write at most 11, and both are reached by 64 bits at offset 7 with byte access.
 -- Assumes nothing.
-use mathlib.Core.Path.{_≡_, refl, ap, _∙_}
+use mathlib.Core.Path.{_≡_, refl}
 use mathlib.Core.Bool.{Bool, true, false}
-use Prim.Native.Nat.{ℕ, _+_, _-_, _*_, _/_, _≤_, _<_}
+use Prim.Native.Nat.{ℕ, _+_, _-_, _≤_}
 use native.Mathlib.Nat.{add-mul, mul-le-mul-right, lt-div-mul-add, div-mul-le-self}
 use native.Mathlib.Omega.{arith}
 use lib.ListN.{length}
@@ -13,11 +13,11 @@ use Rattle.types.specs.Refusals.{firstOf}
 use Rattle.types.specs.declared.value.FieldUnit.{FieldUnit}
 use Rattle.types.specs.declared.value.RegionSpace.the-variants as S
 use Rattle.field_unit.specs.Checks.{firstUnit, lastUnit, fieldChecks}
-use Rattle.field_unit.specs.Accesses.{Plan, first, last, partly, unitAccesses, accessesFrom, accesses}
+use Rattle.field_unit.specs.Accesses.{first, last, partly, unitAccesses, accessesFrom}
 use Rattle.field_unit.specs.Calls.{planOf, countOf, Accepted, reading, writing}
 use Rattle.field_unit.specs.declared.access.FieldOp.{FieldOp}
 use Rattle.field_unit.proofs.Accepted.{facts, first-last}
-use Rattle.field_unit.proofs.Units.{extra, partly-read}
+use Rattle.field_unit.proofs.Units.{extra}
 use Rattle.field_unit.proofs.Listing.{count-one, count-many, count-read}
 
 pub units-most : (w o n : ℕ) → 8 ≤ w → 1 ≤ n → n ≤ 64 → lastUnit w o n ≤ firstUnit w o + 8

@@ -5,18 +5,18 @@
 use mathlib.Core.Path.{_≡_, refl, sym, ap, _∙_}
 use mathlib.Core.Bool.{Bool, true, false, cond, _&&_}
 use mathlib.Core.List.{List, [], _∷_, _++_}
-use Prim.Native.Nat.{ℕ, zero, suc, _+_, _-_, _*_, _/_, _%_, _≤_, _<_, min, max}
+use Prim.Native.Nat.{ℕ, zero, suc, _+_, _-_, _*_, _/_, _≤_, _<_, min, max}
 use native.Mathlib.Nat.{zero-add, add-mul, suc-mul, zero-mul, div-mul-le-self, lt-div-mul-add, le-div-iff-mul-le, le-trans}
 use native.Mathlib.Omega.{arith}
 use lib.Dec.{leb}
 use lib.ListN.{length, getD}
-use borrow.Author.Tests.{leb-true, leb-false}
-use Rattle.bits.specs.Bits.{bitOf, bitAt, run, put, from, withBits, getBits, setBits}
+use borrow.Author.Tests.{leb-true}
+use Rattle.bits.specs.Bits.{bitOf, bitAt, run, put, from, withBits, getBits}
 use Rattle.bits.proofs.Laws.{lt-cases, bitOf-lt, bitAt-lt, run-ext, run-bit, put-in, put-below, put-above, put-cases, put-lt, put-cong, bits-eq}
-use Rattle.bits.proofs.With.{withBits-length, withBits-bit, withBits-cong, withBits-none, withBits-kept, withBits-bytes, withBits-past}
+use Rattle.bits.proofs.With.{withBits-length, withBits-bit, withBits-cong, withBits-none, withBits-kept, withBits-bytes}
 use Rattle.types.specs.declared.flags.FieldUpdateRule.{FieldUpdateRule}
 use Rattle.types.specs.declared.flags.FieldUpdateRule.the-variants as U
-use Rattle.field_unit.specs.Accesses.{Plan, Progress, progress, opening, first, last, units, base, lo, hi, covered, partAccesses, unitAccesses, accessesFrom, accesses, gathered, others, merged, act, acts, whole}
+use Rattle.field_unit.specs.Accesses.{Plan, Progress, progress, first, last, units, base, lo, hi, covered, partAccesses, unitAccesses, accessesFrom, accesses, gathered, others, merged, act, acts, whole}
 use Rattle.field_unit.specs.declared.access.Access.{Access}
 use Rattle.field_unit.specs.declared.access.Access.the-variants.{Load, Store}
 

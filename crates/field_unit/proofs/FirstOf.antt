@@ -1,14 +1,13 @@
 -- A list of checks is judged from its front: a check that holds gives its refusal, and one that does not is passed. Both by the definition,
 -- once the test is known.
 -- Assumes nothing.
-use mathlib.Core.Path.{_≡_, refl, ap, _∙_, sym}
-use mathlib.Core.Bool.{Bool, true, false, cond}
-use mathlib.Core.List.{List, [], _∷_}
+use mathlib.Core.Path.{_≡_, refl, _∙_}
+use mathlib.Core.Bool.{Bool, true, false}
+use mathlib.Core.List.{[], _∷_}
 use Prim.Native.Nat.{ℕ}
 use native.Mathlib.Omega.{arith}
 use Rattle.types.specs.Refusals.{Checks, firstOf}
 use Rattle.types.specs.declared.refusal.Refusal.{Refusal}
-use Rattle.types.specs.declared.refusal.Outcome.{Outcome}
 use Rattle.types.specs.declared.refusal.Outcome.the-variants as O
 
 pub refused : (b : Bool) (r : Refusal) (cs : Checks) → b ≡ true → O.Refused r ≡ firstOf ((b, r) ∷ cs)

@@ -4,6 +4,7 @@ pub mod Accepted
 pub mod Units
 pub mod Listing
 pub mod Running
+pub mod Remaining
 pub mod Bounds
 pub mod Closed
 pub mod Parts

@@ -4,7 +4,7 @@
 use mathlib.Core.Path.{_≡_, refl, sym, ap, _∙_}
 use mathlib.Core.Bool.{Bool, true, false}
 use mathlib.Core.List.{List, [], _∷_, _++_}
-use Prim.Native.Nat.{ℕ, zero, suc, _+_, _-_, _*_, _/_, _≤_, _<_}
+use Prim.Native.Nat.{ℕ, zero, suc, _+_, _-_, _≤_, _<_}
 use native.Mathlib.Omega.{arith}
 use lib.ListN.{length, getD, length-append, List·getD-append}
 use lib.Seq.{getD-append-add}
@@ -13,7 +13,7 @@ use Rattle.field_unit.specs.Accesses.{Plan, first, last, units, unitOf, 
 use Rattle.field_unit.specs.declared.access.Access.{Access}
 use Rattle.field_unit.specs.declared.access.Access.the-variants.{Load, Store}
 use Rattle.field_unit.proofs.Accepted.{first-last}
-use Rattle.field_unit.proofs.Units.{extra, unit-read, unit-partly, unit-stored, unit-count, partly-read, partly-write, middle-stored}
+use Rattle.field_unit.proofs.Units.{extra, unit-read, unit-partly, unit-stored, unit-count, partly-read, middle-stored}
 
 -- ---- one unit on
 

@@ -1,188 +1,188 @@
--- A unit's part of the field, as the code makes it: bits of a merge are bits of the value at their place, and of what lies around elsewhere.
+-- The field's bits in one unit. What the code makes by shifts and a mask has, bit by bit, the bits that the definition says: a read's bits stand
+-- above those held, a write's between those that the rule gives.
 -- Assumes nothing.
-use mathlib.Core.Path.{_≡_, refl, sym, ap, _∙_}
-use mathlib.Core.Bool.{Bool, true, false, cond, _&&_, not, and-false}
+use mathlib.Core.Path.{_≡_, refl, sym, ap, ap₂, _∙_}
+use mathlib.Core.Bool.{Bool, true, false, cond}
 use mathlib.Core.List.{List, [], _∷_}
 use Prim.Native.Nat.{ℕ, zero, suc, _+_, _-_, _*_, _/_, _%_, _^_, _≤_, _<_, min, max}
-use native.Mathlib.Nat.{zero-add, mul-assoc, mul-comm}
+use native.Mathlib.Nat.{zero-add, mod-lt}
 use native.Mathlib.Omega.{arith}
-use borrow.Author.Tests.{le-leb, lt-leb}
-use lib.Dec.{leb}
+use lib.Bits.{bitAnd, bitOr, or-lt}
+use lib.Count.{trailingZeros}
+use lib.Pow.{pow-pos, shr-lt}
 use lib.ListN.{length, getD}
-use Rattle.bits.specs.Bits.{bitOf, bitAt, run, put, from, getBits, setBits}
-use Rattle.bits.proofs.Laws.{bitOf-lt, bitOf-shift, bitOf-high, run-ext, run-bit, put-in, put-below, put-above, put-cases, put-lt, put-cong}
+use Rattle.bits.specs.Bits.{bitOf, run, put, from, getBits, setBits}
+use Rattle.bits.proofs.Laws.{lt-cases, bitOf-lt, bitOf-none, bitOf-shift, run-below, run-ext, run-bit, run-high, run-eq, put-in, put-below, put-above, put-cases, put-lt}
 use Rattle.bits.proofs.With.{withBits-cong}
-use Rattle.bits.proofs.Words.{ones-bit}
+use Rattle.bits.proofs.Words.{bitOf-or, bitOf-shl, bitOf-shl-low, low-law, ones-bit}
+use Rattle.types.proofs.Widths.{Width, of-width}
 use Rattle.types.specs.declared.flags.FieldUpdateRule.{FieldUpdateRule}
 use Rattle.types.specs.declared.flags.FieldUpdateRule.the-variants as U
-use Rattle.field_unit.specs.Accesses.{Plan, Progress, progress, base, lo, hi, covered, partly, keeps, gathered, merged, others, act}
-use Rattle.field_unit.proofs.Closed.{others-lt}
-use Rattle.field_unit.specs.declared.access.Access.{Access}
+use Rattle.types.proofs.flags.FieldUpdateRule.{the-type}
+use types.Run.{OneOf, miss}
+use denote.Enum.Declared.{tagOf}
+use Rattle.field_unit.specs.Accesses.{Plan, progress, base, lo, hi, keeps, gathered, others, merged, act}
+use Rattle.field_unit.specs.Calls.{planOf}
+use Rattle.field_unit.specs.declared.access.FieldOp.{FieldOp}
 use Rattle.field_unit.specs.declared.access.Access.the-variants.{Load, Store}
 
--- the value shifted is the value's bits from there on
-pub shifted-bit : (f : ℕ → ℕ) (at n x d i : ℕ) → put f at n (bitOf (x / 2 ^ d)) i ≡ put f at n (from (bitOf x) d) i
-shifted-bit f at n x d i =
-    put-cases f at n (bitOf (x / 2 ^ d)) i (λ (y : ℕ). y ≡ put f at n (from (bitOf x) d) i)
-    (λ q. sym (put-below f at n (from (bitOf x) d) i q))
-    (λ q r. bitOf-shift x d (i - at) ∙ sym (put-in f at n (from (bitOf x) d) i q r))
-    (λ q. sym (put-above f at n (from (bitOf x) d) i q))
+-- ---- a width is a power of two, and whole bytes
 
--- the low k bits of a merge over old, where old has the bits of f
-pub low-merge : (f : ℕ → ℕ) (old at n x d k : ℕ) → k ≤ 64 → ((i : ℕ) → i < k → bitOf old i ≡ f i)
-    → run (bitOf (run (put (bitOf old) at n (bitOf (x / 2 ^ d))) 0 64)) 0 k ≡ run (put f at n (from (bitOf x) d)) 0 k
-low-merge f old at n x d k h e =
-    let g = put (bitOf old) at n (bitOf (x / 2 ^ d)) in
-    run-ext (bitOf (run g 0 64)) (put f at n (from (bitOf x) d)) 0 0 k
-    (λ i l.
-    run-bit g (put-lt (bitOf old) (bitOf-lt old) at n (bitOf (x / 2 ^ d)) (bitOf-lt (x / 2 ^ d))) 0 64 (0 + i) (omega arith)
-    ∙ ap g (zero-add (0 + i))
-    ∙ shifted-bit (bitOf old) at n x d (0 + i)
-    ∙ put-cong (bitOf old) f at n (from (bitOf x) d) (0 + i) (rw (zero-add i) (e i l)))
+pub width-shift : (w : ℕ) → Width w → 2 ^ trailingZeros 64 w ≡ w
+unfolding trailingZeros
+width-shift w h = of-width (λ (w : ℕ). 2 ^ trailingZeros 64 w ≡ w) w h refl refl refl refl
 
--- what gather answers, and what merge_unit answers
-module _ (o n b w : ℕ) {lo hi : ℕ} (el : lo ≡ max o b) (eh : hi ≡ min (o + n) (b + w)) where
-  pub gather-law : (held x v r : ℕ) → hi - o ≤ 64 → v ≡ run (put (bitOf held) (lo - o) (hi - lo) (bitOf (x / 2 ^ (lo - b)))) 0 64 → r ≡ run (bitOf v) 0 (hi - o)
-      → r ≡ run (put (bitOf held) (max o b - o) (min (o + n) (b + w) - max o b) (from (bitOf x) (max o b - b))) 0 (min (o + n) (b + w) - o)
-  gather-law held x v r k ev er =
-      er
-      ∙ ap (λ (y : ℕ). run (bitOf y) 0 (hi - o)) ev
-      ∙ low-merge (bitOf held) held (lo - o) (hi - lo) x (lo - b) (hi - o) k (λ i l. refl)
-      ∙ ap (λ (y : ℕ). run (put (bitOf held) (y - o) (hi - y) (from (bitOf x) (y - b))) 0 (hi - o)) el
-      ∙ ap (λ (y : ℕ). run (put (bitOf held) (max o b - o) (y - max o b) (from (bitOf x) (max o b - b))) 0 (y - o)) eh
+pub width-shift-small : (w : ℕ) → Width w → trailingZeros 64 w < 64
+unfolding trailingZeros
+width-shift-small w h = of-width (λ (w : ℕ). trailingZeros 64 w < 64) w h (omega arith) (omega arith) (omega arith) (omega arith)
 
-  pub merge-unit-law : (old v r : ℕ) → r ≡ run (put (bitOf old) (lo - b) (hi - lo) (bitOf (v / 2 ^ (lo - o)))) 0 64
-      → r ≡ run (put (bitOf old) (max o b - b) (min (o + n) (b + w) - max o b) (bitOf (v / 2 ^ (max o b - o)))) 0 64
-  merge-unit-law old v r er =
-      er
-      ∙ ap (λ (y : ℕ). run (put (bitOf old) (y - b) (hi - y) (bitOf (v / 2 ^ (y - o)))) 0 64) el
-      ∙ ap (λ (y : ℕ). run (put (bitOf old) (max o b - b) (y - max o b) (bitOf (v / 2 ^ (max o b - o)))) 0 64) eh
+pub unit-place : (w u : ℕ) → Width w → 8 * (u * (w / 8)) ≡ u * w
+unit-place w u h = of-width (λ (w : ℕ). 8 * (u * (w / 8)) ≡ u * w) w h (omega arith) (omega arith) (omega arith) (omega arith)
 
--- ---- is a unit loaded before it is stored?
+pub unit-size : (w : ℕ) → Width w → 8 * min (w / 8) 8 ≡ w
+unit-size w h = of-width (λ (w : ℕ). 8 * min (w / 8) 8 ≡ w) w h refl refl refl refl
 
-pub covered-from : (o b n m : ℕ) → o ≤ b → leb n m ≡ (leb o b && leb n m)
-covered-from o b n m h = sym (ap (λ (x : Bool). x && leb n m) (le-leb o b h))
+pub width-least : (w : ℕ) → Width w → 8 ≤ w
+width-least w h = of-width (λ (w : ℕ). 8 ≤ w) w h (omega arith) (omega arith) (omega arith) (omega arith)
 
-pub covered-not : (o b n m : ℕ) → b < o → false ≡ (leb o b && leb n m)
-covered-not o b n m h = sym (ap (λ (x : Bool). x && leb n m) (lt-leb o b h))
+pub width-most : (w : ℕ) → Width w → w ≤ 64
+width-most w h = of-width (λ (w : ℕ). w ≤ 64) w h (omega arith) (omega arith) (omega arith) (omega arith)
 
-pub partly-not : (p : Plan) (u : ℕ) {b k : Bool} → p .write ≡ true → k ≡ keeps (p .rule) → k ≡ true → b ≡ covered p u → not b ≡ partly p u
-unfolding partly
-partly-not p u {b} {k} w e t c =
-    ap not c
-    ∙ sym (ap (λ (x : Bool). x && (keeps (p .rule) && not (covered p u))) w ∙ ap (λ (x : Bool). x && not (covered p u)) (sym e ∙ t))
+-- ---- a read
 
-pub partly-never : (p : Plan) (u : ℕ) {k : Bool} → k ≡ keeps (p .rule) → k ≡ false → false ≡ partly p u
-unfolding partly
-partly-never p u {k} e f = sym (ap (λ (x : Bool). p .write && (x && not (covered p u))) (sym e ∙ f) ∙ and-false (p .write))
+-- n bits of x, moved to bit at of a word with nothing else in it
+moved : ℕ → ℕ → ℕ → ℕ
+moved at n x = x * 2 ^ (64 - n) % 2 ^ 64 / 2 ^ (64 - n - at)
 
-pub partly-reads : (p : Plan) (u : ℕ) → p .write ≡ false → false ≡ partly p u
-unfolding partly
-partly-reads p u w = sym (ap (λ (x : Bool). x && (keeps (p .rule) && not (covered p u))) w)
+moved-lt : (at n x : ℕ) → at + n ≤ 64 → moved at n x < 2 ^ (at + n)
+unfolding moved
+moved-lt at n x h =
+    let e : at + n + (64 - n - at) ≡ 64 = omega arith in
+    shr-lt (at + n) (64 - n - at) (rw e (mod-lt (x * 2 ^ (64 - n)) (pow-pos 64)))
 
--- ---- what the bits around the field are taken from
+moved-low : (at n x i : ℕ) → at + n ≤ 64 → i < at → bitOf (moved at n x) i ≡ 0
+unfolding moved
+moved-low at n x i h l =
+    bitOf-shift (x * 2 ^ (64 - n) % 2 ^ 64) (64 - n - at) i ∙ bitOf-shl-low x (64 - n) 64 (64 - n - at + i) (omega arith) (omega arith)
 
-pub around-kept : (r : FieldUpdateRule) (h : ℕ) → r ≡ U.Preserve → (k : ℕ) → k < 64 → bitOf h k ≡ others r (bitOf h) k
+moved-in : (at n x i : ℕ) → at + n ≤ 64 → at ≤ i → i < at + n → bitOf (moved at n x) i ≡ bitOf x (i - at)
+unfolding moved
+moved-in at n x i h l g =
+    let e : 64 - n - at + i - (64 - n) ≡ i - at = omega arith in
+    bitOf-shift (x * 2 ^ (64 - n) % 2 ^ 64) (64 - n - at) i
+    ∙ bitOf-shl x (64 - n) 64 (64 - n - at + i) (omega arith) (omega arith)
+    ∙ ap (bitOf x) e
+
+pub above-law : (h at n x : ℕ) → 1 ≤ n → at + n ≤ 64
+    → bitOr (bitAnd h (1 * 2 ^ at % 2 ^ 64 - 1)) (x * 2 ^ (64 - n) % 2 ^ 64 / 2 ^ (64 - n - at)) ≡ run (put (bitOf h) at n (bitOf x)) 0 (at + n)
+unfolding moved
+above-law h at n x a l =
+    ap (λ (y : ℕ). bitOr y (moved at n x)) (low-law h at (omega arith))
+    ∙ run-eq (put (bitOf h) at n (bitOf x)) (bitOr low (moved at n x)) 0 (at + n)
+    (or-lt (at + n) low (moved at n x) (run-below (bitOf h) (bitOf-lt h) 0 at (at + n) (omega arith)) (moved-lt at n x l))
+    (λ i q. bitOf-or low (moved at n x) i ∙ each i q)
+  where
+    low : ℕ
+    low = run (bitOf h) 0 at
+
+    each : (i : ℕ) → i < at + n → max (bitOf low i) (bitOf (moved at n x) i) ≡ put (bitOf h) at n (bitOf x) (0 + i)
+    each i q =
+        let z : 0 + i ≡ i = zero-add i in
+        lt-cases i at (max (bitOf low i) (bitOf (moved at n x) i) ≡ put (bitOf h) at n (bitOf x) (0 + i))
+        (λ p.
+        let b = run-bit (bitOf h) (bitOf-lt h) 0 at i p in
+        rw z (omega (arith, put-below (bitOf h) at n (bitOf x) i p, rw z at b, moved-low at n x i l p)))
+        (λ p. rw z (omega (arith, put-in (bitOf h) at n (bitOf x) i p q, run-high (bitOf h) (bitOf-lt h) 0 at i p, moved-in at n x i l p q)))
+
+-- bits put in place from a number shifted down are those from its bit d on
+put-shifted : (f : ℕ → ℕ) (o n v d k : ℕ) → put f o n (bitOf (v / 2 ^ d)) k ≡ put f o n (from (bitOf v) d) k
+put-shifted f o n v d k =
+    put-cases f o n (bitOf (v / 2 ^ d)) k (λ (y : ℕ). y ≡ put f o n (from (bitOf v) d) k)
+    (λ q. sym (put-below f o n (from (bitOf v) d) k q))
+    (λ q r. bitOf-shift v d (k - o) ∙ sym (put-in f o n (from (bitOf v) d) k q r))
+    (λ q. sym (put-above f o n (from (bitOf v) d) k q))
+
+-- the field's part of a unit: its end, counted from the field's start
+part-end : (o n x w : ℕ) → o < x + w → x < o + n → max o x - o + (min (o + n) (x + w) - max o x) ≡ min (o + n) (x + w) - o
+part-end o n x w a b = omega arith
+
+pub gathers : (p : Plan) (u h x : ℕ) → p .offset < base p u + p .width → base p u < p .offset + p .size
+    → run (put (bitOf h) (lo p u - p .offset) (hi p u - lo p u) (bitOf (x / 2 ^ (lo p u - base p u)))) 0 (lo p u - p .offset + (hi p u - lo p u))
+    ≡ gathered p u h x
+unfolding gathered
+gathers p u h x a b =
+    ap (run (put (bitOf h) (lo p u - p .offset) (hi p u - lo p u) (bitOf (x / 2 ^ (lo p u - base p u)))) 0)
+    (part-end (p .offset) (p .size) (base p u) (p .width) a b)
+    ∙ run-ext (put (bitOf h) (lo p u - p .offset) (hi p u - lo p u) (bitOf (x / 2 ^ (lo p u - base p u))))
+    (put (bitOf h) (lo p u - p .offset) (hi p u - lo p u) (from (bitOf x) (lo p u - base p u))) 0 0 (hi p u - p .offset)
+    (λ i _. put-shifted (bitOf h) (lo p u - p .offset) (hi p u - lo p u) x (lo p u - base p u) (0 + i))
+
+-- ---- a write
+
+others-lt : (r : FieldUpdateRule) (h k : ℕ) → others r (bitOf h) k < 2
 unfolding others
-around-kept r h e k l = rw e
+others-lt U.Preserve h k = bitOf-lt h k
+others-lt U.WriteAsOnes h k = omega arith
+others-lt U.WriteAsZeros h k = omega arith
 
-pub around-ones : (r : FieldUpdateRule) (h : ℕ) → r ≡ U.WriteAsOnes → (k : ℕ) → k < 64 → bitOf 18446744073709551615 k ≡ others r (bitOf h) k
-unfolding others
-around-ones r h e k l = ones-bit 64 k l ∙ rw e
+covered-start : (o n x w : ℕ) → min (o + n) (x + w) - max o x ≡ w → 0 < w → max o x - x ≡ 0
+covered-start o n x w e h = omega arith
 
-pub around-zeros : (r : FieldUpdateRule) (h : ℕ) → r ≡ U.WriteAsZeros → (k : ℕ) → k < 64 → bitOf 0 k ≡ others r (bitOf h) k
-unfolding others
-around-zeros r h e k l = bitOf-high 0 0 k (omega arith) (omega arith) ∙ rw e
+-- the field covers the unit: nothing is left to the rule
+pub merges-all : (p : Plan) (v u h : ℕ) → ((k : ℕ) → p .bits k ≡ bitOf v k) → 0 < p .width → hi p u - lo p u ≡ p .width
+    → run (bitOf (v / 2 ^ (lo p u - p .offset))) 0 (p .width) ≡ merged p u h
+unfolding merged
+merges-all p v u h b l e =
+    let z = covered-start (p .offset) (p .size) (base p u) (p .width) e l in
+    run-ext (bitOf (v / 2 ^ (lo p u - p .offset)))
+    (put (others (p .rule) (bitOf h)) (lo p u - base p u) (hi p u - lo p u) (from (p .bits) (lo p u - p .offset))) 0 0 (p .width)
+    (λ i q.
+    let f : lo p u - p .offset + (0 + i) ≡ lo p u - p .offset + (0 + i - (lo p u - base p u)) = omega arith in
+    bitOf-shift v (lo p u - p .offset) (0 + i)
+    ∙ sym (b (lo p u - p .offset + (0 + i)))
+    ∙ ap (p .bits) f
+    ∙ sym (put-in (others (p .rule) (bitOf h)) (lo p u - base p u) (hi p u - lo p u) (from (p .bits) (lo p u - p .offset)) (0 + i) (omega arith) (omega arith)))
 
--- ---- one access
+pub merges : (p : Plan) (v u h a : ℕ) → ((k : ℕ) → p .bits k ≡ bitOf v k) → p .width ≤ 64
+    → ((k : ℕ) → k < 64 → bitOf a k ≡ others (p .rule) (bitOf h) k)
+    → run (bitOf (run (put (bitOf a) (lo p u - base p u) (hi p u - lo p u) (bitOf (v / 2 ^ (lo p u - p .offset)))) 0 64)) 0 (p .width) ≡ merged p u h
+unfolding merged
+merges p v u h a b l e =
+    run-ext (bitOf (run g 0 64)) f 0 0 (p .width)
+    (λ i q.
+    run-bit g (put-lt (bitOf a) (bitOf-lt a) at n (bitOf (v / 2 ^ d)) (bitOf-lt (v / 2 ^ d))) 0 64 (0 + i) (omega arith)
+    ∙ each (0 + (0 + i)) (0 + i) (zero-add (0 + i)) (omega arith))
+  where
+    at : ℕ
+    at = lo p u - base p u
 
--- a unit of whole bytes, by its bytes
-whole-at : (u w : ℕ) → 8 * (w / 8) ≡ w → 8 * (u * w / 8) ≡ u * w
-whole-at u w e =
-    let m : u * w ≡ 8 * (u * (w / 8)) = ap (λ (x : ℕ). u * x) (sym e) ∙ sym (mul-assoc u 8 (w / 8)) ∙ ap (λ (x : ℕ). x * (w / 8)) (mul-comm u 8) ∙ mul-assoc 8 u (w / 8) in
-    omega arith
+    n : ℕ
+    n = hi p u - lo p u
 
-whole-width : (w : ℕ) → 8 * (w / 8) ≡ w → w ≤ 64 → 8 * min (w / 8) 8 ≡ w
-whole-width w e h = omega arith
+    d : ℕ
+    d = lo p u - p .offset
 
-module _ (p : Plan) (u : ℕ) (s : List ℕ) (h : ℕ) where
-  pub load-write : {x : ℕ} → p .write ≡ true → x ≡ getBits s (base p u) (p .width) → x ≡ act p (Load u) (progress s h) .held
-  unfolding act
-  load-write w e = e ∙ sym (ap (λ (b : Bool). cond b (getBits s (base p u) (p .width)) (gathered p u h (getBits s (base p u) (p .width)))) w)
+    g : ℕ → ℕ
+    g = put (bitOf a) at n (bitOf (v / 2 ^ d))
 
-  pub load-read : {r x : ℕ} → p .write ≡ false → x ≡ getBits s (base p u) (p .width)
-      → r ≡ run (put (bitOf h) (lo p u - p .offset) (hi p u - lo p u) (from (bitOf x) (lo p u - base p u))) 0 (hi p u - p .offset)
-      → r ≡ act p (Load u) (progress s h) .held
-  unfolding act gathered
-  load-read {r} {x} w e g =
-      g
-      ∙ ap (λ (y : ℕ). run (put (bitOf h) (lo p u - p .offset) (hi p u - lo p u) (from (bitOf y) (lo p u - base p u))) 0 (hi p u - p .offset)) e
-      ∙ sym (ap (λ (b : Bool). cond b (getBits s (base p u) (p .width)) (gathered p u h (getBits s (base p u) (p .width)))) w)
+    f : ℕ → ℕ
+    f = put (others (p .rule) (bitOf h)) at n (from (p .bits) d)
 
-  -- the unit stored has the merged unit's bits
-  pub store-merged : (old x v : ℕ) (t : List ℕ) → p .width ≤ 64 → ((k : ℕ) → k < 64 → bitOf old k ≡ others (p .rule) (bitOf h) k)
-      → ((k : ℕ) → p .bits k ≡ bitOf v k)
-      → x ≡ run (put (bitOf old) (lo p u - base p u) (hi p u - lo p u) (bitOf (v / 2 ^ (lo p u - p .offset)))) 0 64
-      → t ≡ setBits s (base p u) (p .width) x → t ≡ act p (Store u) (progress s h) .region
-  unfolding act merged
-  store-merged old x v t w around bits e g =
-      let f = put (others (p .rule) (bitOf h)) (lo p u - base p u) (hi p u - lo p u) (from (p .bits) (lo p u - p .offset)) in
-      let q = put (bitOf old) (lo p u - base p u) (hi p u - lo p u) (bitOf (v / 2 ^ (lo p u - p .offset))) in
-      g
-      ∙ withBits-cong s (base p u) (p .width) (bitOf x) (bitOf (run f 0 (p .width)))
-      (λ i l.
-      ap (λ (y : ℕ). bitOf y i) e
-      ∙ run-bit q (put-lt (bitOf old) (bitOf-lt old) (lo p u - base p u) (hi p u - lo p u) (bitOf (v / 2 ^ (lo p u - p .offset))) (bitOf-lt (v / 2 ^ (lo p u - p .offset)))) 0 64 i (omega arith)
-      ∙ ap q (zero-add i)
-      ∙ shifted-bit (bitOf old) (lo p u - base p u) (hi p u - lo p u) v (lo p u - p .offset) i
-      ∙ put-cong (bitOf old) (others (p .rule) (bitOf h)) (lo p u - base p u) (hi p u - lo p u) (from (bitOf v) (lo p u - p .offset)) i (around i (omega arith))
-      ∙ same-bits i
-      ∙ sym (run-bit f (put-lt (others (p .rule) (bitOf h)) (others-lt (p .rule) (bitOf h) (bitOf-lt h)) (lo p u - base p u) (hi p u - lo p u) (from (p .bits) (lo p u - p .offset)) (λ k. rw (bits (lo p u - p .offset + k)) (bitOf-lt v (lo p u - p .offset + k)))) 0 (p .width) i l
-      ∙ ap f (zero-add i)))
-    where
-      same-bits : (i : ℕ) → put (others (p .rule) (bitOf h)) (lo p u - base p u) (hi p u - lo p u) (from (bitOf v) (lo p u - p .offset)) i ≡ put (others (p .rule) (bitOf h)) (lo p u - base p u) (hi p u - lo p u) (from (p .bits) (lo p u - p .offset)) i
-      same-bits i =
-          put-cases (others (p .rule) (bitOf h)) (lo p u - base p u) (hi p u - lo p u) (from (bitOf v) (lo p u - p .offset)) i
-          (λ (y : ℕ). y ≡ put (others (p .rule) (bitOf h)) (lo p u - base p u) (hi p u - lo p u) (from (p .bits) (lo p u - p .offset)) i)
-          (λ q. sym (put-below (others (p .rule) (bitOf h)) (lo p u - base p u) (hi p u - lo p u) (from (p .bits) (lo p u - p .offset)) i q))
-          (λ q r. sym (bits (lo p u - p .offset + (i - (lo p u - base p u)))) ∙ sym (put-in (others (p .rule) (bitOf h)) (lo p u - base p u) (hi p u - lo p u) (from (p .bits) (lo p u - p .offset)) i q r))
-          (λ q. sym (put-above (others (p .rule) (bitOf h)) (lo p u - base p u) (hi p u - lo p u) (from (p .bits) (lo p u - p .offset)) i q))
+    each : (j i : ℕ) → j ≡ i → i < 64 → g j ≡ f i
+    each j i z q =
+        ap g z
+        ∙ put-cases (bitOf a) at n (bitOf (v / 2 ^ d)) i (λ (y : ℕ). y ≡ f i)
+        (λ r. e i q ∙ sym (put-below (others (p .rule) (bitOf h)) at n (from (p .bits) d) i r))
+        (λ r s. bitOf-shift v d (i - at) ∙ sym (b (d + (i - at))) ∙ sym (put-in (others (p .rule) (bitOf h)) at n (from (p .bits) d) i r s))
+        (λ r. e i q ∙ sym (put-above (others (p .rule) (bitOf h)) at n (from (p .bits) d) i r))
 
--- the same, as the code has the unit's place: by a width v that is the plan's
-module _ (p : Plan) (u : ℕ) (s : List ℕ) (h : ℕ) {v : ℕ} (ev : v ≡ p .width) (by : 8 * (p .width / 8) ≡ p .width) (most : p .width ≤ 64) where
-  abbrev gatheredBy : ℕ → ℕ → ℕ → ℕ
-  gatheredBy b w x =
-      run (put (bitOf h) (max (p .offset) b - p .offset) (min (p .offset + p .size) (b + w) - max (p .offset) b) (from (bitOf x) (max (p .offset) b - b))) 0
-      (min (p .offset + p .size) (b + w) - p .offset)
+-- a store takes only the unit's own bits
+pub stores : (s : List ℕ) (o w x y : ℕ) → run (bitOf x) 0 w ≡ y → setBits s o w x ≡ setBits s o w y
+stores s o w x y e =
+    withBits-cong s o w (bitOf x) (bitOf y)
+    (λ i l. sym (ap (λ (z : ℕ). bitOf z i) (sym e) ∙ run-bit (bitOf x) (bitOf-lt x) 0 w i l ∙ ap (bitOf x) (zero-add i)))
 
-  abbrev mergedBy : ℕ → ℕ → ℕ → ℕ → ℕ
-  mergedBy b w old n =
-      run (put (bitOf old) (max (p .offset) b - b) (min (p .offset + p .size) (b + w) - max (p .offset) b) (bitOf (n / 2 ^ (max (p .offset) b - p .offset)))) 0 64
-
-  loaded : (x : ℕ) → x ≡ getBits s (8 * (u * v / 8)) (8 * min (v / 8) 8) → x ≡ getBits s (base p u) (p .width)
-  loaded x e =
-      e
-      ∙ ap (λ (w : ℕ). getBits s (8 * (u * w / 8)) (8 * min (w / 8) 8)) ev
-      ∙ ap (λ (o : ℕ). getBits s o (8 * min (p .width / 8) 8)) (whole-at u (p .width) by)
-      ∙ ap (getBits s (base p u)) (whole-width (p .width) by most)
-
-  pub loaded-write : (x : ℕ) → p .write ≡ true → x ≡ getBits s (8 * (u * v / 8)) (8 * min (v / 8) 8) → x ≡ act p (Load u) (progress s h) .held
-  loaded-write x w e = load-write p u s h w (loaded x e)
-
-  pub loaded-read : (r x : ℕ) → p .write ≡ false → x ≡ getBits s (8 * (u * v / 8)) (8 * min (v / 8) 8) → r ≡ gatheredBy (u * v) v x
-      → r ≡ act p (Load u) (progress s h) .held
-  loaded-read r x w e g = load-read p u s h w (loaded x e) (g ∙ ap (λ (y : ℕ). gatheredBy (u * y) y x) ev)
-
-  pub stored-unit : (old x n : ℕ) (t : List ℕ) → ((k : ℕ) → k < 64 → bitOf old k ≡ others (p .rule) (bitOf h) k) → ((k : ℕ) → p .bits k ≡ bitOf n k)
-      → x ≡ mergedBy (u * v) v old n → t ≡ setBits s (8 * (u * v / 8)) (8 * min (v / 8) 8) x → t ≡ act p (Store u) (progress s h) .region
-  stored-unit old x n t around bits e g =
-      store-merged p u s h old x n t most around bits (e ∙ ap (λ (y : ℕ). mergedBy (u * y) y old n) ev)
-      (g
-      ∙ ap (λ (w : ℕ). setBits s (8 * (u * w / 8)) (8 * min (w / 8) 8) x) ev
-      ∙ ap (λ (o : ℕ). setBits s o (8 * min (p .width / 8) 8) x) (whole-at u (p .width) by)
-      ∙ ap (λ (k : ℕ). setBits s (base p u) k x) (whole-width (p .width) by most))
-
--- ---- the update rule by its bits
+-- ---- the rule
 
 pub rule-zero : (n : ℕ) → n ≡ 0 → U.Preserve ≡ getD (U.Preserve ∷ U.WriteAsOnes ∷ []) n U.WriteAsZeros
 rule-zero n e = rw e
@@ -194,3 +194,72 @@ pub rule-more : (n : ℕ) → (n ≡ 0 → ⊥) → (n ≡ 1 → ⊥) → U.Writ
 rule-more zero a b = absurd (a refl)
 rule-more (suc zero) a b = absurd (b refl)
 rule-more (suc (suc n)) a b = refl
+
+-- all rules but the first write over the bits around
+pub not-kept : (r : FieldUpdateRule) → OneOf (1 ∷ 2 ∷ []) (tagOf the-type r) → keeps r ≡ false
+not-kept U.Preserve k = absurd (miss (1 ∷ 2 ∷ []) 0 tt k)
+not-kept U.WriteAsOnes k = refl
+not-kept U.WriteAsZeros k = refl
+
+pub around-kept : (r : FieldUpdateRule) (h : ℕ) → r ≡ U.Preserve → (k : ℕ) → k < 64 → bitOf h k ≡ others r (bitOf h) k
+unfolding others
+around-kept r h e k l = rw e
+
+pub around-ones : (r : FieldUpdateRule) (h : ℕ) → r ≡ U.WriteAsOnes → (k : ℕ) → k < 64 → bitOf 18446744073709551615 k ≡ others r (bitOf h) k
+unfolding others
+around-ones r h e k l = ones-bit 64 k l ∙ rw e
+
+pub around-zeros : (r : FieldUpdateRule) (h : ℕ) → r ≡ U.WriteAsZeros → (k : ℕ) → k < 64 → bitOf 0 k ≡ others r (bitOf h) k
+unfolding others
+around-zeros r h e k l = bitOf-none k ∙ rw e
+
+-- ---- at the numbers that the code holds: its width w, and the ends of the field's part of unit u
+
+module _ (op : FieldOp) (u h w : ℕ) (ew : w ≡ planOf op .width) where
+  abbrev plan : Plan
+  plan = planOf op
+
+  module _ (low high : ℕ) (el : low ≡ max (op .field .offset) (u * w)) (eh : high ≡ min (op .field .offset + op .field .length) (u * w + w)) where
+    starts : low ≡ lo plan u
+    starts = el ∙ ap (λ (x : ℕ). max (op .field .offset) (u * x)) ew
+
+    ends : high ≡ hi plan u
+    ends = eh ∙ ap (λ (x : ℕ). min (op .field .offset + op .field .length) (u * x + x)) ew
+
+    pub gathers-at : (x : ℕ) → op .field .offset < u * w + w → u * w < op .field .offset + op .field .length
+        → run (put (bitOf h) (low - op .field .offset) (high - low) (bitOf (x / 2 ^ (low - u * w)))) 0 (low - op .field .offset + (high - low)) ≡ gathered plan u h x
+    gathers-at x a b = rw (starts, ends, ew) (gathers plan u h x (rw ew at a) (rw ew at b))
+
+    pub merges-all-at : 0 < w → high - low ≡ w → run (bitOf (op .value / 2 ^ (low - op .field .offset))) 0 w ≡ merged plan u h
+    merges-all-at l e =
+        let q : hi plan u - lo plan u ≡ plan .width = ap₂ (λ (x y : ℕ). x - y) (sym ends) (sym starts) ∙ e ∙ ew in
+        rw (starts, ew) (merges-all plan (op .value) u h (λ _. refl) (rw ew at l) q)
+
+    pub merges-at : (a : ℕ) → w ≤ 64 → ((k : ℕ) → k < 64 → bitOf a k ≡ others (plan .rule) (bitOf h) k)
+        → run (bitOf (run (put (bitOf a) (low - u * w) (high - low) (bitOf (op .value / 2 ^ (low - op .field .offset)))) 0 64)) 0 w ≡ merged plan u h
+    merges-at a l e = rw (starts, ends, ew) (merges plan (op .value) u h a (λ _. refl) (rw ew at l) e)
+
+  module _ (s : List ℕ) where
+    pub load-reads : (r x : ℕ) → op .write ≡ false → x ≡ getBits s (u * w) w → r ≡ gathered plan u h x → r ≡ act plan (Load u) (progress s h) .held
+    unfolding act
+    load-reads r x f e g =
+        g
+        ∙ ap (gathered plan u h) (e ∙ ap (λ (y : ℕ). getBits s (u * y) y) ew)
+        ∙ sym (ap (λ (b : Bool). cond b (getBits s (base plan u) (plan .width)) (gathered plan u h (getBits s (base plan u) (plan .width)))) f)
+
+    pub load-holds : (x : ℕ) → op .write ≡ true → x ≡ getBits s (u * w) w → progress s x ≡ act plan (Load u) (progress s h)
+    unfolding act
+    load-holds x t e =
+        ap (progress s)
+        (e
+        ∙ ap (λ (y : ℕ). getBits s (u * y) y) ew
+        ∙ sym (ap (λ (b : Bool). cond b (getBits s (base plan u) (plan .width)) (gathered plan u h (getBits s (base plan u) (plan .width)))) t))
+
+    pub store-puts : (t : List ℕ) (x : ℕ) → Width w → t ≡ setBits s (8 * (u * (w / 8))) (8 * min (w / 8) 8) x → run (bitOf x) 0 w ≡ merged plan u h
+        → t ≡ act plan (Store u) (progress s h) .region
+    unfolding act
+    store-puts t x ok e m =
+        e
+        ∙ ap₂ (λ (o n : ℕ). setBits s o n x) (unit-place w u ok) (unit-size w ok)
+        ∙ stores s (u * w) w x (merged plan u h) m
+        ∙ ap (λ (y : ℕ). setBits s (u * y) y (merged plan u h)) ew

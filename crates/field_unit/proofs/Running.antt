@@ -1,8 +1,8 @@
 -- Running a list of accesses: in two parts, one after the other. So a loop over units keeps "what is left, from here" equal to the whole from
 -- the start; a load changes no byte, and after a unit's store nothing is held.
 -- Assumes nothing.
-use mathlib.Core.Path.{_≡_, refl, sym, ap, _∙_}
-use mathlib.Core.Bool.{Bool, true, false}
+use mathlib.Core.Path.{_≡_, refl, ap, _∙_}
+use mathlib.Core.Bool.{true, false}
 use mathlib.Core.List.{List, [], _∷_, _++_}
 use Prim.Native.Nat.{ℕ, _+_, _-_, _≤_, _<_}
 use Rattle.field_unit.specs.Accesses.{Plan, Progress, progress, opening, unitAccesses, partly, accessesFrom, act, acts}

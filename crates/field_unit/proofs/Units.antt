@@ -3,17 +3,16 @@
 -- Assumes nothing.
 use mathlib.Core.Path.{_≡_, refl, sym, ap, _∙_}
 use mathlib.Core.Bool.{Bool, true, false, cond, _&&_, not, true≢false, false≢true}
-use mathlib.Core.List.{List, [], _∷_, _++_}
-use Prim.Native.Nat.{ℕ, zero, suc, _+_, _-_, _*_, _/_, _≤_, _<_}
+use mathlib.Core.List.{[], _∷_}
+use Prim.Native.Nat.{ℕ, _+_, _-_, _≤_, _<_}
 use native.Mathlib.Nat.{suc-mul, lt-div-mul-add, div-mul-le-self, mul-le-mul-right}
 use native.Mathlib.Omega.{arith}
-use borrow.Author.Tests.{le-leb, lt-leb, leb-true, leb-false}
-use lib.Dec.{leb}
+use borrow.Author.Tests.{le-leb, lt-leb, ltb-true, ltb-false}
+use lib.Dec.{leb, ltb}
 use lib.ListN.{length}
 use Rattle.types.specs.declared.flags.FieldUpdateRule.{FieldUpdateRule}
 use Rattle.types.specs.declared.flags.FieldUpdateRule.the-variants as U
 use Rattle.field_unit.specs.Accesses.{Plan, first, last, base, covered, partAccesses, unitAccesses, keeps, partly}
-use Rattle.field_unit.specs.declared.access.Access.{Access}
 use Rattle.field_unit.specs.declared.access.Access.the-variants.{Load, Store}
 
 -- ---- is it loaded before it is stored?
@@ -66,6 +65,15 @@ pub covered-between : (p : Plan) (u : ℕ) → p .offset ≤ base p u → base p
 covered-between p u h g =
     ap (λ (t : Bool). t && leb (base p u + p .width) (p .offset + p .size)) (le-leb (p .offset) (base p u) h)
     ∙ le-leb (base p u + p .width) (p .offset + p .size) g
+
+-- a unit that does not begin before the field is loaded first where it ends after it
+pub partly-from : (p : Plan) (u : ℕ) → p .write ≡ true → keeps (p .rule) ≡ true → p .offset ≤ base p u
+    → ltb (p .offset + p .size) (base p u + p .width) ≡ partly p u
+partly-from p u a b h = go (ltb (p .offset + p .size) (base p u + p .width)) refl
+  where
+    go : (t : Bool) → ltb (p .offset + p .size) (base p u + p .width) ≡ t → ltb (p .offset + p .size) (base p u + p .width) ≡ partly p u
+    go true e = e ∙ sym (partly-part p u a b (covered-not-above p u (ltb-true (p .offset + p .size) (base p u + p .width) e)))
+    go false e = e ∙ sym (partly-covered p u (covered-between p u h (ltb-false (p .offset + p .size) (base p u + p .width) e)))
 
 pub middle-covered : (p : Plan) (u : ℕ) → 0 < p .width → 1 ≤ p .size → first p < u → u < last p → covered p u ≡ true
 middle-covered p u h g a b =

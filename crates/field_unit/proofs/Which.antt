@@ -5,11 +5,9 @@ use mathlib.Core.Path.{_≡_, refl, sym, ap, _∙_}
 use mathlib.Core.Bool.{Bool, true, false, cond}
 use Prim.Native.Nat.{ℕ, _+_, _-_, _≤_, _<_}
 use native.Mathlib.Omega.{arith}
-use lib.ListN.{length}
-use Rattle.field_unit.specs.Accesses.{Plan, first, last, partly, accesses, unitOf}
+use Rattle.field_unit.specs.Accesses.{Plan, first, last, partly, unitOf}
 use Rattle.field_unit.specs.Calls.{planOf, countOf, accessAt, Accepted}
 use Rattle.field_unit.specs.declared.access.FieldOp.{FieldOp}
-use Rattle.field_unit.specs.declared.access.Access.{Access}
 use Rattle.field_unit.specs.declared.access.Access.the-variants.{Load, Store}
 use Rattle.field_unit.proofs.Accepted.{facts}
 use Rattle.field_unit.proofs.Units.{extra}

@@ -1,3 +1,4 @@
 pub mod Checks
 pub mod Accesses
 pub mod Calls
+pub mod Left

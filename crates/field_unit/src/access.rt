@@ -1,12 +1,12 @@
-// One access of a field unit: a load or a store of one whole unit. It is the one place where a region is loaded from or stored to.
-ghost use mathlib.Core.Bool.{_&&_};
+// One access of a field unit: a load or a store of one whole unit. A read makes each of its accesses by `load`, a write by `act`, whether in a
+// whole call or alone. The width is looked up once for a call and handed down.
+ghost use mathlib.Core.Bool.{true, false};
 ghost use mathlib.Core.Path.{_≡_};
-ghost use lib.Dec.{leb};
-ghost use Prim.Native.Nat.{ℕ, _+_, _-_, _*_, _/_, _^_, _≤_, _<_, min, max};
+ghost use Prim.Native.Nat.{ℕ, _+_, _*_, _/_, _≤_, _<_, min, max};
 ghost use lib.ListN.{length};
-ghost use Rattle.bits.specs.Bits.{bitOf, run, put, from};
-ghost use Rattle.types.specs.Flags.{accessWidth};
-ghost use Rattle.field_unit.specs.Accesses.{progress, first, last, partly, keeps, unitOf, others, act};
+ghost use Rattle.bits.specs.Bits.{bitOf, run, put, getBits};
+ghost use Rattle.types.proofs.Widths.{Width};
+ghost use Rattle.field_unit.specs.Accesses.{progress, first, last, base, partly, unitOf, gathered, merged, others, act};
 ghost use Rattle.field_unit.specs.Calls.{planOf, Accepted};
 use types::flags::FieldUpdateRule;
 use types::value::FieldUnit;
@@ -44,7 +44,7 @@ pub(crate) fn width(op: FieldOp) -> u64
     flags.access_width()
 }
 
-pub(crate) fn rule(op: FieldOp) -> FieldUpdateRule
+fn rule(op: FieldOp) -> FieldUpdateRule
     ensures { λ r. ⌜ r ≡ planOf op .rule ⌝ }
 {
     let field = op.field;
@@ -59,36 +59,69 @@ pub(crate) fn rule(op: FieldOp) -> FieldUpdateRule
     FieldUpdateRule::WriteAsZeros
 }
 
-pub(crate) fn first_unit(op: FieldOp) -> u64
-    requires { ⌜ 1 ≤ accessWidth (op .field .flags .0) ⌝ }
+// x div width. A width is a power of two, so it is a shift.
+pub(crate) fn units(x: u64, width: u64) -> u64
+    requires { ⌜ Width width ⌝ }
+    ensures { λ r. ⌜ r ≡ x / width ⌝ }
+{
+    x >> u64::trailing_zeros(width)
+}
+
+pub(crate) fn first_unit(op: FieldOp, width: u64, size: usize) -> u64
+    requires { ⌜ (Accepted op size) × (width ≡ planOf op .width) ⌝ }
     ensures { λ r. ⌜ r ≡ first (planOf op) ⌝ }
 {
     let field = op.field;
-    field.offset / width(op)
+    units(field.offset, width)
 }
 
-pub(crate) fn last_unit(op: FieldOp, size: usize) -> u64
-    requires { ⌜ Accepted op size ⌝ }
+pub(crate) fn last_unit(op: FieldOp, width: u64, size: usize) -> u64
+    requires { ⌜ (Accepted op size) × (width ≡ planOf op .width) ⌝ }
     ensures { λ r. ⌜ r ≡ last (planOf op) ⌝ }
 {
     let field = op.field;
-    (field.offset + field.length - 1) / width(op)
+    units(field.offset + field.length - 1, width)
 }
 
-// A read's bits of the field so far: those held, and those of the unit x that begins at bit base. Nothing stands above them.
-fn gather(width: u64, offset: u64, length: u64, base: u64, held: u64, x: u64) -> u64
-    requires { ⌜ (width ≤ 64) × (length ≤ 64) × (base + width ≤ 524288) × (offset < base + width) × (base < offset + length) ⌝ }
-    ensures { λ r. ⌜ r ≡ run (put (bitOf held) (max offset base - offset) (min (offset + length) (base + width) - max offset base) (from (bitOf x) (max offset base - base))) 0 (min (offset + length) (base + width) - offset) ⌝ }
+// Is the unit loaded before it is stored? Only a write under Preserve does so, where the field does not cover the unit.
+pub(crate) fn is_partly(op: FieldOp, width: u64, u: u64, size: usize) -> bool
+    requires { ⌜ (Accepted op size) × (width ≡ planOf op .width) × (first (planOf op) ≤ u) × (u ≤ last (planOf op)) ⌝ }
+    ensures { λ r. ⌜ r ≡ partly (planOf op) u ⌝ }
 {
-    let lo = greater(offset, base);
-    let hi = lesser(offset + length, base + width);
-    let v = bits::word::merge(
-        held,
-        (lo - offset) as usize,
-        (hi - lo) as usize,
-        x >> (lo - base),
-    );
-    bits::word::low(v, (hi - offset) as usize)
+    if !op.write {
+        return false;
+    }
+    let rule = rule(op);
+    let FieldUpdateRule::Preserve = rule else {
+        return false;
+    };
+    let field = op.field;
+    let base = u * width;
+    if base < field.offset {
+        return true;
+    }
+    field.offset + field.length < base + width
+}
+
+// The lowest at bits of held, and above them the lowest n of x.
+fn above(held: u64, at: u64, n: u64, x: u64) -> u64
+    requires { ⌜ (1 ≤ n) × (at + n ≤ 64) ⌝ }
+    ensures { λ r. ⌜ r ≡ run (put (bitOf held) at n (bitOf x)) 0 (at + n) ⌝ }
+{
+    let low = held & ((1 << at) - 1);
+    low | ((x << (64 - n)) >> (64 - n - at))
+}
+
+// The unit x gives a read its bits of the field; they stand above those held.
+fn gather(op: FieldOp, width: u64, u: u64, held: u64, x: u64, size: usize) -> u64
+    requires { ⌜ (Accepted op size) × (width ≡ planOf op .width) × (first (planOf op) ≤ u) × (u ≤ last (planOf op)) ⌝ }
+    ensures { λ r. ⌜ r ≡ gathered (planOf op) u held x ⌝ }
+{
+    let field = op.field;
+    let base = u * width;
+    let lo = greater(field.offset, base);
+    let hi = lesser(field.offset + field.length, base + width);
+    above(held, lo - field.offset, hi - lo, x >> (lo - base))
 }
 
 // What the bits around the field are taken from.
@@ -102,96 +135,61 @@ fn around(rule: FieldUpdateRule, held: u64) -> u64
     }
 }
 
-// The unit that begins at bit base, over old, in the lowest bits: the field's bits in it are the value's.
-fn merge_unit(width: u64, offset: u64, length: u64, base: u64, old: u64, value: u64) -> u64
-    requires { ⌜ (width ≤ 64) × (length ≤ 64) × (base + width ≤ 524288) × (offset < base + width) × (base < offset + length) ⌝ }
-    ensures { λ r. ⌜ r ≡ run (put (bitOf old) (max offset base - base) (min (offset + length) (base + width) - max offset base) (bitOf (value / 2 ^ (max offset base - offset)))) 0 64 ⌝ }
+// The unit to store, in the lowest bits: the field's bits in it are the value's, the others, if there are any, go by the rule.
+fn merge_unit(op: FieldOp, width: u64, u: u64, held: u64, size: usize) -> u64
+    requires { ⌜ (Accepted op size) × (width ≡ planOf op .width) × (first (planOf op) ≤ u) × (u ≤ last (planOf op)) ⌝ }
+    ensures { λ r. ⌜ run (bitOf r) 0 width ≡ merged (planOf op) u held ⌝ }
 {
-    let lo = greater(offset, base);
-    let hi = lesser(offset + length, base + width);
-    bits::word::merge(
-        old,
-        (lo - base) as usize,
-        (hi - lo) as usize,
-        value >> (lo - offset),
-    )
+    let field = op.field;
+    let base = u * width;
+    let lo = greater(field.offset, base);
+    let hi = lesser(field.offset + field.length, base + width);
+    let n = hi - lo;
+    let v = op.value >> (lo - field.offset);
+    if n == width {
+        return v;
+    }
+    bits::word::merge(around(rule(op), held), (lo - base) as usize, n as usize, v)
 }
 
-// Loads unit u. Answers what is held after it.
-pub(crate) fn load(op: FieldOp, u: u64, region: &[u8], held: u64) -> u64
-    requires { ⌜ (Accepted op (length (now region))) × (first (planOf op) ≤ u) × (u ≤ last (planOf op)) ⌝ }
+// The unit u of the region.
+fn fetch(width: u64, u: u64, region: &[u8]) -> u64
+    requires { ⌜ (Width width) × (u * width ≤ 524288) ⌝ }
+    ensures { λ r. ⌜ r ≡ getBits (now (region .entry)) (u * width) width ⌝ }
+{
+    let n = width / 8;
+    bits::unit::load(region, (u * n) as usize, n as usize)
+}
+
+// The one access of a read: loads unit u. Answers what is held after it.
+pub(crate) fn load(op: FieldOp, width: u64, u: u64, region: &[u8], held: u64) -> u64
+    requires { ⌜ (op .write ≡ false) × (Accepted op (length (now region))) × (width ≡ planOf op .width) × (first (planOf op) ≤ u) × (u ≤ last (planOf op)) ⌝ }
     ensures { λ r. ⌜ r ≡ act (planOf op) (Access.Load u) (progress (now (region .entry)) held) .held ⌝ }
 {
-    let w = width(op);
-    let base = u * w;
-    let x = bits::unit::load(region, (base / 8) as usize, (w / 8) as usize);
-    if op.write {
-        return x;
-    }
-    let field = op.field;
-    gather(w, field.offset, field.length, base, held, x)
+    let x = fetch(width, u, region);
+    gather(op, width, u, held, x, region.len())
 }
 
 // Stores unit u.
-pub(crate) fn store(op: FieldOp, u: u64, region: &mut [u8], held: u64)
-    requires { ⌜ (Accepted op (length (now region))) × (first (planOf op) ≤ u) × (u ≤ last (planOf op)) ⌝ }
+fn store(op: FieldOp, width: u64, u: u64, region: &mut [u8], held: u64)
+    requires { ⌜ (Accepted op (length (now region))) × (width ≡ planOf op .width) × (first (planOf op) ≤ u) × (u ≤ last (planOf op)) ⌝ }
     ensures { λ _. ⌜ now (region .exit) ≡ act (planOf op) (Access.Store u) (progress (now (region .entry)) held) .region ⌝ }
 {
-    let w = width(op);
-    let base = u * w;
-    let field = op.field;
-    let old = around(rule(op), held);
-    let x = merge_unit(w, field.offset, field.length, base, old, op.value);
-    bits::unit::store(region, (base / 8) as usize, (w / 8) as usize, x);
+    let n = width / 8;
+    let x = merge_unit(op, width, u, held, region.len());
+    bits::unit::store(region, (u * n) as usize, n as usize, x);
 }
 
-// Makes one access. Answers what is held after it.
-pub(crate) fn act(op: FieldOp, a: Access, region: &mut [u8], held: u64) -> u64
-    requires { ⌜ (Accepted op (length (now region))) × (first (planOf op) ≤ unitOf a) × (unitOf a ≤ last (planOf op)) ⌝ }
+// One access of a write. Answers what is held after it: the unit that was loaded, for the store that follows.
+pub(crate) fn act(op: FieldOp, width: u64, a: Access, region: &mut [u8], held: u64) -> u64
+    requires { ⌜ (op .write ≡ true) × (Accepted op (length (now region))) × (width ≡ planOf op .width) × (first (planOf op) ≤ unitOf a) × (unitOf a ≤ last (planOf op)) ⌝ }
     ensures { λ r. ⌜ progress (now (region .exit)) r ≡ act (planOf op) a (progress (now (region .entry)) held) ⌝ }
 {
     match a {
-        Access::Load(u) => load(op, u, region, held),
+        Access::Load(u) => fetch(width, u, region),
         Access::Store(u) => {
-            store(op, u, region, held);
+            store(op, width, u, region, held);
             0
         }
     }
-}
-
-// Does the rule keep the bits around the field?
-fn is_keeping(rule: FieldUpdateRule) -> bool
-    ensures { λ r. ⌜ r ≡ keeps rule ⌝ }
-{
-    match rule {
-        FieldUpdateRule::Preserve => true,
-        FieldUpdateRule::WriteAsOnes => false,
-        FieldUpdateRule::WriteAsZeros => false,
-    }
-}
-
-// Does the field cover the unit that begins at bit base?
-fn is_covered(width: u64, offset: u64, length: u64, base: u64) -> bool
-    requires { ⌜ (length ≤ 64) × (base + width ≤ 524288) × (offset < base + width) ⌝ }
-    ensures { λ r. ⌜ r ≡ (leb offset base && leb (base + width) (offset + length)) ⌝ }
-{
-    if offset <= base {
-        return base + width <= offset + length;
-    }
-    false
-}
-
-// Is the unit loaded before it is stored? Only a write under Preserve does so, where the field does not cover the unit.
-pub(crate) fn is_partly(op: FieldOp, u: u64, size: usize) -> bool
-    requires { ⌜ (Accepted op size) × (first (planOf op) ≤ u) × (u ≤ last (planOf op)) ⌝ }
-    ensures { λ r. ⌜ r ≡ partly (planOf op) u ⌝ }
-{
-    if op.write {
-        if is_keeping(rule(op)) {
-            let w = width(op);
-            let field = op.field;
-            return !is_covered(w, field.offset, field.length, u * w);
-        }
-    }
-    false
 }

@@ -3,8 +3,10 @@ ghost use mathlib.Core.Bool.{_&&_, _||_};
 ghost use mathlib.Core.Path.{_≡_};
 ghost use Prim.Native.Nat.{_≤_};
 ghost use lib.Dec.{ltb, eqb};
+ghost use Rattle.types.proofs.Widths.{Width};
 ghost use Rattle.types.specs.Refusals.{firstOf};
 ghost use Rattle.field_unit.specs.Checks.{supported, narrow, badFlags, outside, placeChecks, fieldChecks};
+use crate::access::units;
 use types::flags::FieldFlags;
 use types::refusal::Outcome;
 use types::refusal::Refusal;
@@ -58,7 +60,7 @@ fn is_too_wide(width: u64, space: RegionSpace) -> bool
 
 // 22. The sum of offset and length is not bounded, so it is formed only where it fits.
 fn is_outside(width: u64, offset: u64, length: u64, size: u64) -> bool
-    requires { ⌜ (8 ≤ width) × (width ≤ 64) × (1 ≤ length) × (size ≤ 65536) ⌝ }
+    requires { ⌜ (Width width) × (1 ≤ length) × (size ≤ 65536) ⌝ }
     ensures { λ r. ⌜ r ≡ outside width offset length size ⌝ }
 {
     let bits = 8 * size;
@@ -68,7 +70,7 @@ fn is_outside(width: u64, offset: u64, length: u64, size: u64) -> bool
     if bits - length < offset {
         return true;
     }
-    let last = (offset + length - 1) / width;
+    let last = units(offset + length - 1, width);
     bits < last * width + width
 }
 
@@ -96,7 +98,7 @@ pub fn check_field(field: FieldUnit, write: bool, size: u64) -> Outcome
 
 // 21, then 22.
 fn check_place(width: u64, offset: u64, length: u64, size: u64) -> Outcome
-    requires { ⌜ (8 ≤ width) × (width ≤ 64) × (size ≤ 65536) ⌝ }
+    requires { ⌜ (Width width) × (size ≤ 65536) ⌝ }
     ensures { λ r. ⌜ r ≡ firstOf (placeChecks width offset length size) ⌝ }
 {
     if length == 0 {

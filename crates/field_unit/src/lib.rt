@@ -3,4 +3,5 @@
 pub mod access; // one load or store: which it is, and what it does
 pub mod check; // which fields are refused
 pub mod next; // the next single access of an operation
+mod run; // accesses one after the other
 pub mod whole; // a whole read, a whole write

@@ -1,62 +1,94 @@
--- `access::gather` meets its contract.
+-- The field's part of the unit begins at the later of two starts and ends at the earlier of two ends; above puts it in its place (gathers-at).
 -- Assumes nothing.
-use Rattle.field_unit.proofs.Parts.{gather-law}
+use mathlib.Core.Path.{_∙_}
 use native.Mathlib.Omega.{arith}
+use Rattle.field_unit.proofs.Accepted.{facts-at, inside-at}
+use Rattle.field_unit.proofs.Parts.{gathers-at}
 use borrow.Author.Needs.{needs}
 use Rattle.field_unit.proofs.access.gather.Statement.{statement}
 use Rattle.field_unit.proofs.access.gather.Tie as tie
+
+mul-base : tie.Need-mul-base
+mul-base c =
+    let a = c .before .args in
+    let q = c .before .pre in
+    let f = facts-at (a .op) (a .size) (a .width) (q .0) (q .1) in
+    let i = inside-at (a .op) (a .size) (a .u) (a .width) (q .0) (q .1) (q .2) (q .3) in
+    omega arith
 
 greater-requires : tie.Need-greater-requires
 greater-requires c κs = search needs
 
 add-lesser : tie.Need-add-lesser
-add-lesser c = search needs
+add-lesser c =
+    let a = c .before .before .before .args in
+    let q = c .before .before .before .pre in
+    let f = facts-at (a .op) (a .size) (a .width) (q .0) (q .1) in
+    let i = inside-at (a .op) (a .size) (a .u) (a .width) (q .0) (q .1) (q .2) (q .3) in
+    omega arith
 
 add-lesser-2 : tie.Need-add-lesser-2
-add-lesser-2 c = search needs
+add-lesser-2 c =
+    let a = c .before .before .before .args in
+    let q = c .before .before .before .pre in
+    let f = facts-at (a .op) (a .size) (a .width) (q .0) (q .1) in
+    let i = inside-at (a .op) (a .size) (a .u) (a .width) (q .0) (q .1) (q .2) (q .3) in
+    omega arith
 
 lesser-requires : tie.Need-lesser-requires
 lesser-requires c κs = search needs
 
-sub-merge : tie.Need-sub-merge
-sub-merge c = search needs
+sub-above : tie.Need-sub-above
+sub-above c = search needs
 
-sub-merge-2 : tie.Need-sub-merge-2
-sub-merge-2 c = search needs
+sub-above-2 : tie.Need-sub-above-2
+sub-above-2 c =
+    let a = c .before .before .before .before .before .args in
+    let q = c .before .before .before .before .before .pre in
+    let f = facts-at (a .op) (a .size) (a .width) (q .0) (q .1) in
+    let i = inside-at (a .op) (a .size) (a .u) (a .width) (q .0) (q .1) (q .2) (q .3) in
+    omega arith
 
-sub-merge-3 : tie.Need-sub-merge-3
-sub-merge-3 c = search needs
+sub-above-3 : tie.Need-sub-above-3
+sub-above-3 c = search needs
 
-shr-merge : tie.Need-shr-merge
-shr-merge c = search needs
+shr-above : tie.Need-shr-above
+shr-above c =
+    let a = c .before .before .before .before .before .args in
+    let q = c .before .before .before .before .before .pre in
+    let f = facts-at (a .op) (a .size) (a .width) (q .0) (q .1) in
+    let i = inside-at (a .op) (a .size) (a .u) (a .width) (q .0) (q .1) (q .2) (q .3) in
+    omega arith
 
-merge-requires : tie.Need-merge-requires
-merge-requires c κs = search needs
-
-sub-low : tie.Need-sub-low
-sub-low c = search needs
-
-low-requires : tie.Need-low-requires
-low-requires c κs = search needs
+above-requires : tie.Need-above-requires
+above-requires c κs =
+    let a = c .before .before .before .before .before .args in
+    let q = c .before .before .before .before .before .pre in
+    let f = facts-at (a .op) (a .size) (a .width) (q .0) (q .1) in
+    let i = inside-at (a .op) (a .size) (a .u) (a .width) (q .0) (q .1) (q .2) (q .3) in
+    (omega arith, omega arith)
 
 returns : tie.Need-returns
 returns c =
-    let a = c .before .before .before .before .args in
-    gather-law (a .offset) (a .length) (a .base) (a .width) (c .before .before .before .greater .ensures) (c .before .before .lesser .ensures) (a .held) (a .x) (c .before .merge .result) (c .low .result) (omega (arith, c .before .before .lesser .ensures)) (c .before .merge .ensures) (c .low .ensures)
+    let a = c .before .before .before .before .before .before .args in
+    let q = c .before .before .before .before .before .before .pre in
+    let f = facts-at (a .op) (a .size) (a .width) (q .0) (q .1) in
+    let i = inside-at (a .op) (a .size) (a .u) (a .width) (q .0) (q .1) (q .2) (q .3) in
+    c .above .ensures
+    ∙ gathers-at (a .op) (a .u) (a .held) (a .width) (q .1) (c .before .before .before .before .greater .result) (c .before .before .lesser .result) (c .before .before .before .before .greater .ensures) (c .before .before .lesser .ensures) (a .x) (i .meets) (i .starts)
 
 pub gather-spec : {M : Type 1} → statement M
 gather-spec =
     tie.close
     (tie.spec
+    mul-base
     greater-requires
     add-lesser
     add-lesser-2
     lesser-requires
-    sub-merge
-    sub-merge-2
-    sub-merge-3
-    shr-merge
-    merge-requires
-    sub-low
-    low-requires
+    sub-above
+    sub-above-2
+    sub-above-3
+    shr-above
+    above-requires
     returns)

@@ -1,14 +1,13 @@
 -- `field_unit::check::check_field` meets its contract: the checks are passed one by one, in the order of the list.
 -- Assumes nothing.
+use Rattle.types.proofs.Widths.{width-is}
 use Prim.Native.Nat.{ℕ}
 use Rattle.types.specs.Refusals.{firstOf}
 use mathlib.Core.Path.{_∙_, sym, ap}
 use mathlib.Core.Bool.{not, _&&_}
-use native.Mathlib.Omega.{arith}
 use borrow.Author.Tests.{lt-ltb, le-ltb, leb-false}
 use lib.Dec.{leb, eqb}
 use Rattle.types.specs.Flags.{accessBits, ruleBits}
-use Rattle.types.proofs.Widths.{width-bounds}
 use Rattle.field_unit.specs.Checks.{narrow, placeChecks, fieldChecks}
 use Rattle.field_unit.proofs.FirstOf.{refused, passed}
 use Rattle.field_unit.proofs.Accepted.{or-left}
@@ -64,8 +63,7 @@ check-place-requires c κs =
     let a = t .before .before .before .before .args in
     let f = a .field .flags .0 in
     let i = leb-false 6 (accessBits f) (or-left (leb 6 (accessBits f)) (a .write && eqb (ruleBits f) 3) (sym (t .before .bad-flags .ensures) ∙ t .if2 .left)) in
-    let b = width-bounds f i in
-    omega (arith, w .access-width .ensures, t .before .before .if1 .left)
+    (rw (w .access-width .ensures) (width-is f i), t .before .before .if1 .left)
 
 returns-5 : tie.Need-returns-5
 unfolding fieldChecks

@@ -1,4 +1,4 @@
--- `field_unit::check::check_place` meets its contract: the checks are passed one by one, in the order of the list.
+-- The checks are passed one by one, in the order of the list.
 -- Assumes nothing.
 use mathlib.Core.Path.{_∙_, sym}
 use borrow.Author.Tests.{lt-ltb, le-ltb, eq-eqb, ne-eqb}

@@ -1,8 +1,7 @@
--- `next::access_at` meets its contract.
+-- A read loads unit after unit. A write's accesses follow the units too, once a load of the first unit is set apart; past the last unit there is its store.
 -- Assumes nothing.
-use Rattle.field_unit.proofs.Answers.{not-true, not-false}
 use native.Mathlib.Omega.{arith}
-use Rattle.field_unit.proofs.Accepted.{facts}
+use Rattle.field_unit.proofs.Answers.{not-true, not-false}
 use Rattle.field_unit.proofs.Which.{ordered, small, read-count, at-read, at-lead, at-last-store, at-last-load, at-covered, at-only, at-middle}
 use Rattle.field_unit.proofs.Bounds.{count-most}
 use borrow.Author.Needs.{needs}
@@ -10,10 +9,7 @@ use Rattle.field_unit.proofs.next.access_at.Statement.{statement}
 use Rattle.field_unit.proofs.next.access_at.Tie as tie
 
 first-unit-requires : tie.Need-first-unit-requires
-first-unit-requires c κs =
-    let a = c .args in
-    let q = c .pre in
-    let f = facts (a .op) (a .size) (q .0) in omega arith
+first-unit-requires c κs = search needs
 
 last-unit-requires : tie.Need-last-unit-requires
 last-unit-requires c κs = search needs
@@ -24,24 +20,24 @@ is-partly-requires c κs =
     let q = c .before .before .pre in
     let o = ordered (a .op) (a .size) (q .0) in
     let s = small (a .op) (a .size) (q .0) in
-    let e = c .before .first-unit .ensures in (q .0, omega arith, omega arith)
+    let e = c .before .first-unit .ensures in (q .0, q .1, omega arith, omega arith)
 
 one-if-requires : tie.Need-one-if-requires
 one-if-requires c κs = search needs
 
-add-t9 : tie.Need-add-t9
-add-t9 c =
+add-t10 : tie.Need-add-t10
+add-t10 c =
     let a = c .before .before .before .before .before .before .args in
     let q = c .before .before .before .before .before .before .pre in
     let o = ordered (a .op) (a .size) (q .0) in
     let s = small (a .op) (a .size) (q .0) in
-    let r = read-count (a .op) (a .size) (q .0) (c .before .before .before .before .before .first-unit .ensures) (c .before .before .before .before .last-unit .ensures) (not-true _ (c .if1 .taken)) in omega (arith, c .before .before .before .before .before .first-unit .ensures, c .before .before .before .before .last-unit .ensures, q .1)
+    let r = read-count (a .op) (a .size) (q .0) (c .before .before .before .before .before .first-unit .ensures) (c .before .before .before .before .last-unit .ensures) (not-true _ (c .if1 .taken)) in omega (arith, c .before .before .before .before .before .first-unit .ensures, c .before .before .before .before .last-unit .ensures, q .2)
 
 returns : tie.Need-returns
 returns c =
     let a = c .before .before .before .before .before .before .args in
     let q = c .before .before .before .before .before .before .pre in
-    at-read (a .op) (a .size) (q .0) (c .before .before .before .before .before .first-unit .ensures) (c .before .before .before .before .last-unit .ensures) (c .before .before .before .is-partly .ensures) (c .before .before .one-if .ensures) (a .k) (not-true _ (c .if1 .taken)) (q .1)
+    at-read (a .op) (a .size) (q .0) (c .before .before .before .before .before .first-unit .ensures) (c .before .before .before .before .last-unit .ensures) (c .before .before .before .is-partly .ensures) (c .before .before .one-if .ensures) (a .k) (not-true _ (c .if1 .taken)) (q .2)
 
 returns-2 : tie.Need-returns-2
 returns-2 c =
@@ -55,13 +51,13 @@ add-u c =
     let q = c .before .before .before .before .before .before .before .pre in
     let o = ordered (a .op) (a .size) (q .0) in
     let s = small (a .op) (a .size) (q .0) in
-    let m = count-most (a .op) (a .size) (q .0) in omega (arith, c .before .before .before .before .before .before .first-unit .ensures, q .1)
+    let m = count-most (a .op) (a .size) (q .0) in omega (arith, c .before .before .before .before .before .before .first-unit .ensures, q .2)
 
 returns-3 : tie.Need-returns-3
 returns-3 c =
     let a = c .before .before .before .before .before .before .before .before .args in
     let q = c .before .before .before .before .before .before .before .before .pre in
-    at-last-store (a .op) (a .size) (q .0) (c .before .before .before .before .before .before .before .first-unit .ensures) (c .before .before .before .before .before .before .last-unit .ensures) (c .before .before .before .before .before .is-partly .ensures) (c .before .before .before .before .one-if .ensures) (a .k) (not-false _ (c .before .before .if1 .left)) (c .before .if2 .left) (q .1) (c .if3 .taken)
+    at-last-store (a .op) (a .size) (q .0) (c .before .before .before .before .before .before .before .first-unit .ensures) (c .before .before .before .before .before .before .last-unit .ensures) (c .before .before .before .before .before .is-partly .ensures) (c .before .before .before .before .one-if .ensures) (a .k) (not-false _ (c .before .before .if1 .left)) (c .before .if2 .left) (q .2) (c .if3 .taken)
 
 is-partly-requires-2 : tie.Need-is-partly-requires-2
 is-partly-requires-2 c κs = search needs
@@ -98,7 +94,7 @@ access-at-spec =
     last-unit-requires
     is-partly-requires
     one-if-requires
-    add-t9
+    add-t10
     returns
     returns-2
     add-u

@@ -1,28 +1,25 @@
--- `whole::read_units` meets its contract.
+-- Each turn loads one unit (reading-next); past the last none is left.
 -- Assumes nothing.
 use Prim.Native.Nat.{_+_, _-_}
 use native.Mathlib.Omega.{arith}
 use lib.ListN.{length}
 use denote.Ref.{now}
 use Rattle.field_unit.proofs.Which.{ordered, small}
-use Rattle.field_unit.proofs.Accepted.{facts}
 use Rattle.field_unit.proofs.Turns.{Reading, reading-start, reading-next, reading-end}
 use Rattle.field_unit.proofs.whole.read_units.Statement.{statement}
 use Rattle.field_unit.proofs.whole.read_units.Tie as tie
 
 abbrev Inv-loop : tie.InvT-loop
-Inv-loop op region last u₀ held₀ u held = Reading op region u held
+Inv-loop op width region last u₀ held₀ u held = Reading op region u held
 
 abbrev μ-loop : tie.MeasureT-loop
-μ-loop op region last u₀ held₀ u held = last + 1 - u
+μ-loop op width region last u₀ held₀ u held = last + 1 - u
 
 last-unit-requires : tie.Need-last-unit-requires Inv-loop μ-loop
-last-unit-requires c κs =
-    c .before .pre .1
+last-unit-requires c κs = (c .before .pre .1, c .before .pre .2)
 
 first-unit-requires : tie.Need-first-unit-requires Inv-loop μ-loop
-first-unit-requires c κs =
-    let f = facts (c .before .before .args .op) (length (now (c .before .before .args .region))) (c .before .before .pre .1) in omega arith
+first-unit-requires c κs = (c .before .before .pre .1, c .before .before .pre .2)
 
 loop-holds : tie.Need-loop-holds Inv-loop μ-loop
 loop-holds c =
@@ -38,7 +35,8 @@ load-requires c κs =
     let q = c .before .before .before .before .before .pre in
     let o = ordered (a .op) (length (now (a .region))) (q .1) in
     let s = small (a .op) (length (now (a .region))) (q .1) in
-    let i = c .before .loop .inv in (q .1, i .from, omega (arith, c .before .before .before .last-unit .ensures, c .loop-test .taken))
+    let i = c .before .loop .inv in
+    (q .0, q .1, q .2, i .from, omega (arith, c .before .before .before .last-unit .ensures, c .loop-test .taken))
 
 add-u : tie.Need-add-u Inv-loop μ-loop
 add-u c =
@@ -49,8 +47,7 @@ add-u c =
     omega (arith, c .before .before .before .before .last-unit .ensures, c .before .loop-test .taken)
 
 loop-less : tie.Need-loop-less Inv-loop μ-loop
-loop-less c =
-    omega (arith, c .before .loop-test .taken)
+loop-less c = omega (arith, c .before .loop-test .taken)
 
 loop-again : tie.Need-loop-again Inv-loop μ-loop
 loop-again c =
