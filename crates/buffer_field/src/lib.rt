@@ -2,10 +2,12 @@
 // No public function has a `requires`: every argument is checked, and a refusal changes no byte.
 ghost use mathlib.Core.Path.{_≡_};
 ghost use Prim.Native.Nat.{_+_, _*_, _≤_, min};
+ghost use mathlib.Core.List.{[]};
 ghost use lib.Dec.{ltb};
 ghost use lib.ListN;
 ghost use Rattle.bits.specs.Bits.{bitAt, bitOf};
 ghost use Rattle.types.specs.Refusals.{firstOf};
+ghost use Rattle.types.specs.declared.value.AmlValue.the-variants as Val;
 ghost use Rattle.buffer_field.specs.BufferFields.{boundsChecks, read, write, writeSelf, writeOver, over, truth};
 use types::refusal::Outcome;
 use types::refusal::Refusal;
@@ -135,6 +137,46 @@ pub fn write_buffer_field(
         AmlValue::Buffer => write_buffer(buffer, offset, length, bytes),
         _ => Outcome::Refused(Refusal::TypeCannotBeWrittenToBufferField(type_of(value))),
     }
+}
+
+// Writes a number over the whole field: as write_buffer_field writes an Integer.
+pub fn write_buffer_field_integer(buffer: &mut [u8], offset: u64, length: u64, x: u64) -> Outcome
+    ensures { λ r. ⌜ (record { answer = r; buffer = now (buffer .exit) }) ≡ write (now (buffer .entry)) offset length (Val.Integer x) [] ⌝ }
+{
+    if 65536 < buffer.len() {
+        return Outcome::Refused(Refusal::TooManyBytes);
+    }
+    if out_of_bounds(buffer.len(), offset, length) {
+        return Outcome::Refused(Refusal::BufferFieldIndexesOutOfBounds);
+    }
+    let at = offset as usize;
+    bits::long::write_number(buffer, at, length as usize, x);
+    Outcome::Done
+}
+
+// Writes the lent bytes over the whole field: as write_buffer_field writes a Buffer.
+pub fn write_buffer_field_bytes(
+    buffer: &mut [u8],
+    offset: u64,
+    length: u64,
+    bytes: &[u8],
+) -> Outcome
+    ensures { λ r. ⌜ (record { answer = r; buffer = now (buffer .exit) }) ≡ write (now (buffer .entry)) offset length Val.Buffer (now (bytes .entry)) ⌝ }
+{
+    let there = buffer.len();
+    let given = bytes.len();
+    if 65536 < there {
+        return Outcome::Refused(Refusal::TooManyBytes);
+    }
+    if 65536 < given {
+        return Outcome::Refused(Refusal::TooManyBytes);
+    }
+    if out_of_bounds(there, offset, length) {
+        return Outcome::Refused(Refusal::BufferFieldIndexesOutOfBounds);
+    }
+    let at = offset as usize;
+    bits::long::write_long(buffer, at, length as usize, bytes);
+    Outcome::Done
 }
 
 // Writes the buffer itself, as it was before, over the whole field.

@@ -11,3 +11,4 @@ pub mod Parts
 pub mod Which
 pub mod Answers
 pub mod Turns
+pub mod Joined

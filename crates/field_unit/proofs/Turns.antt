@@ -10,49 +10,17 @@ use lib.ListN.{length, take}
 use lib.Seq.{take-nil, take-all}
 use Rattle.bits.specs.Bits.{bitOf}
 use Rattle.bits.proofs.With.{withBits-length}
-use Rattle.field_unit.specs.Accesses.{Plan, Progress, progress, opening, base, first, last, unitOf, partly, accessesFrom, accesses, merged, act, acts, whole}
+use Rattle.field_unit.specs.Accesses.{Plan, Progress, progress, base, first, last, unitOf, partly, accesses, merged, act, acts, whole}
 use Rattle.field_unit.specs.Calls.{planOf, countOf, accessAt, Accepted}
 use Rattle.field_unit.specs.Left.{left, isStore}
 use Rattle.field_unit.specs.declared.access.FieldOp.{FieldOp}
 use Rattle.field_unit.specs.declared.access.Access.{Access}
 use Rattle.field_unit.specs.declared.access.Access.the-variants.{Load, Store}
-use Rattle.field_unit.proofs.Running.{acts-over, acts-step, acts-one, load-held, read-unit}
+use Rattle.field_unit.proofs.Running.{acts-one, load-held}
 use Rattle.field_unit.proofs.Remaining.{left-whole, left-over, left-step, left-nth}
 use Rattle.field_unit.proofs.Accepted.{facts}
 use Rattle.field_unit.proofs.Listing.{nth-read}
 use Rattle.field_unit.proofs.Bounds.{count-most}
-
--- ---- the loop of a read
-
-pub record Reading (op : FieldOp) (s : List ℕ) (u held : ℕ) : Type 0 where
-  pub from : first (planOf op) ≤ u
-  pub upto : u ≤ last (planOf op) + 1
-  pub rest : acts (planOf op) (accessesFrom (planOf op) u (last (planOf op) + 1 - u)) (progress s held) ≡ whole (planOf op) s
-
-pub reading-start : (op : FieldOp) (s : List ℕ) (u : ℕ) → first (planOf op) ≤ last (planOf op) → u ≡ first (planOf op) → Reading op s u 0
-reading-start op s u o e =
-    record {
-      from = omega arith;
-      upto = omega arith;
-      rest = ap (λ (x : ℕ). acts (planOf op) (accessesFrom (planOf op) x (last (planOf op) + 1 - x)) (opening s)) e;
-    }
-
-pub reading-next : (op : FieldOp) (s : List ℕ) (u h g : ℕ) → op .write ≡ false → Reading op s u h → u ≤ last (planOf op)
-    → g ≡ act (planOf op) (Load u) (progress s h) .held → Reading op s (u + 1) g
-reading-next op s u h g w i l e =
-    let p = planOf op in
-    record {
-      from = omega (arith, i .from);
-      upto = omega arith;
-      rest =
-          ap (λ (x : ℕ). acts p (accessesFrom p (u + 1) (last p + 1 - (u + 1))) (progress s x)) e
-          ∙ ap (acts p (accessesFrom p (u + 1) (last p + 1 - (u + 1)))) (sym (load-held p u s h) ∙ sym (read-unit p u (progress s h) w))
-          ∙ sym (acts-step p u (last p) (progress s h) l)
-          ∙ i .rest;
-    }
-
-pub reading-end : (op : FieldOp) (s : List ℕ) (u h : ℕ) → Reading op s u h → last (planOf op) < u → h ≡ whole (planOf op) s .held
-reading-end op s u h i l = ap (λ (x : Progress). x .held) (sym (acts-over (planOf op) u (last (planOf op)) (progress s h) l) ∙ i .rest)
 
 -- ---- the loop of a write
 

@@ -1,5 +1,5 @@
-// One access of a field unit: a load or a store of one whole unit. A read makes each of its accesses by `load`, a write by `act`, whether in a
-// whole call or alone. The width is looked up once for a call and handed down.
+// One access of a field unit: a load or a store of one whole unit. Every load of a region is made by `fetch`, every store by `store`, in a
+// whole call and alone. The width is looked up once for a call and handed down.
 ghost use mathlib.Core.Bool.{true, false};
 ghost use mathlib.Core.Path.{_≡_};
 ghost use Prim.Native.Nat.{ℕ, _+_, _*_, _/_, _≤_, _<_, min, max};
@@ -153,7 +153,7 @@ fn merge_unit(op: FieldOp, width: u64, u: u64, held: u64, size: usize) -> u64
 }
 
 // The unit u of the region.
-fn fetch(width: u64, u: u64, region: &[u8]) -> u64
+pub(crate) fn fetch(width: u64, u: u64, region: &[u8]) -> u64
     requires { ⌜ (Width width) × (u * width ≤ 524288) ⌝ }
     ensures { λ r. ⌜ r ≡ getBits (now (region .entry)) (u * width) width ⌝ }
 {

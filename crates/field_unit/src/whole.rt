@@ -2,12 +2,15 @@
 ghost use mathlib.Core.Path.{_≡_};
 ghost use lib.ListN.{length};
 ghost use mathlib.Core.Bool.{true, false};
+ghost use Prim.Native.Nat.{_+_, _/_, _≤_};
+ghost use Rattle.bits.specs.Bits.{getBits};
+ghost use Rattle.types.proofs.Widths.{Width};
 ghost use Rattle.field_unit.specs.Accesses.{whole};
 ghost use Rattle.field_unit.specs.Calls.{planOf, Accepted, readField, writeField, wrote};
 use crate::access::FieldOp;
+use crate::access::fetch;
 use crate::access::first_unit;
 use crate::access::last_unit;
-use crate::access::load;
 use crate::access::width;
 use crate::check::check_field;
 use crate::run::run;
@@ -27,18 +30,30 @@ pub enum UnitWritten {
     Refused(Refusal),
 }
 
+// The field's bits, from its units: each is loaded once, ascending, and joined above those before it.
+fn join_units(width: u64, offset: u64, length: u64, first: u64, region: &[u8]) -> u64
+    requires { ⌜ (Width width) × (1 ≤ length) × (length ≤ 64) × (offset + length ≤ 524288) × (first ≡ offset / width) ⌝ }
+    ensures { λ r. ⌜ r ≡ getBits (now (region .entry)) offset length ⌝ }
+{
+    let skip = offset - first * width;
+    let mut value = fetch(width, first, region) >> skip;
+    let mut have = width - skip;
+    let mut u = first;
+    while have < length {
+        u += 1;
+        value = value | (fetch(width, u, region) << have);
+        have += width;
+    }
+    bits::word::low(value, length as usize)
+}
+
 fn read_units(op: FieldOp, width: u64, region: &[u8]) -> u64
     requires { ⌜ (op .write ≡ false) × (Accepted op (length (now region))) × (width ≡ planOf op .width) ⌝ }
     ensures { λ r. ⌜ r ≡ whole (planOf op) (now (region .entry)) .held ⌝ }
 {
-    let last = last_unit(op, width, region.len());
-    let mut u = first_unit(op, width, region.len());
-    let mut held: u64 = 0;
-    while u <= last {
-        held = load(op, width, u, region, held);
-        u += 1;
-    }
-    held
+    let field = op.field;
+    let first = first_unit(op, width, region.len());
+    join_units(width, field.offset, field.length, first, region)
 }
 
 // The field's value, and how many loads that took.

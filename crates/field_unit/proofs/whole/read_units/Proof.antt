@@ -1,81 +1,34 @@
--- Each turn loads one unit (reading-next); past the last none is left.
+-- `field_unit::whole::read_units` meets its contract: a whole read gives the run of the field's bits (read-closed), and that is what its units joined give.
 -- Assumes nothing.
-use Prim.Native.Nat.{_+_, _-_}
+use mathlib.Core.Path.{_≡_, sym, ap, _∙_}
+use Prim.Native.Nat.{ℕ, _+_, _/_, _≤_, _<_}
 use native.Mathlib.Omega.{arith}
-use lib.ListN.{length}
 use denote.Ref.{now}
-use Rattle.field_unit.proofs.Which.{ordered, small}
-use Rattle.field_unit.proofs.Turns.{Reading, reading-start, reading-next, reading-end}
+use lib.ListN.{length}
+use borrow.Author.Needs.{needs}
+use Rattle.field_unit.specs.Accesses.{Progress}
+use Rattle.field_unit.specs.Calls.{planOf}
+use Rattle.field_unit.proofs.Accepted.{facts, facts-at}
+use Rattle.field_unit.proofs.Closed.{read-closed}
 use Rattle.field_unit.proofs.whole.read_units.Statement.{statement}
 use Rattle.field_unit.proofs.whole.read_units.Tie as tie
 
-abbrev Inv-loop : tie.InvT-loop
-Inv-loop op width region last u₀ held₀ u held = Reading op region u held
+first-unit-requires : tie.Need-first-unit-requires
+first-unit-requires c κs = search needs
 
-abbrev μ-loop : tie.MeasureT-loop
-μ-loop op width region last u₀ held₀ u held = last + 1 - u
+join-units-requires : tie.Need-join-units-requires
+join-units-requires c κs =
+    let t = c .before .before .before in
+    let a = t .args in
+    let f = facts-at (a .op) (length (now (a .region))) (a .width) (t .pre .1) (t .pre .2) in
+    (f .width, f .length-least, f .length-most, omega arith, c .first-unit .ensures ∙ ap (λ (w : ℕ). a .op .field .offset / w) (sym (t .pre .2)))
 
-last-unit-requires : tie.Need-last-unit-requires Inv-loop μ-loop
-last-unit-requires c κs = (c .before .pre .1, c .before .pre .2)
-
-first-unit-requires : tie.Need-first-unit-requires Inv-loop μ-loop
-first-unit-requires c κs = (c .before .before .pre .1, c .before .before .pre .2)
-
-loop-holds : tie.Need-loop-holds Inv-loop μ-loop
-loop-holds c =
-    let a = c .before .before .before .args in
-    let q = c .before .before .before .pre in
-    let o = ordered (a .op) (length (now (a .region))) (q .1) in
-    let s = small (a .op) (length (now (a .region))) (q .1) in
-    reading-start (a .op) (now (a .region)) _ o (c .first-unit .ensures)
-
-load-requires : tie.Need-load-requires Inv-loop μ-loop
-load-requires c κs =
-    let a = c .before .before .before .before .before .args in
-    let q = c .before .before .before .before .before .pre in
-    let o = ordered (a .op) (length (now (a .region))) (q .1) in
-    let s = small (a .op) (length (now (a .region))) (q .1) in
-    let i = c .before .loop .inv in
-    (q .0, q .1, q .2, i .from, omega (arith, c .before .before .before .last-unit .ensures, c .loop-test .taken))
-
-add-u : tie.Need-add-u Inv-loop μ-loop
-add-u c =
-    let a = c .before .before .before .before .before .before .args in
-    let q = c .before .before .before .before .before .before .pre in
-    let o = ordered (a .op) (length (now (a .region))) (q .1) in
-    let s = small (a .op) (length (now (a .region))) (q .1) in
-    omega (arith, c .before .before .before .before .last-unit .ensures, c .before .loop-test .taken)
-
-loop-less : tie.Need-loop-less Inv-loop μ-loop
-loop-less c = omega (arith, c .before .loop-test .taken)
-
-loop-again : tie.Need-loop-again Inv-loop μ-loop
-loop-again c =
-    let a = c .before .before .before .before .before .before .args in
-    let q = c .before .before .before .before .before .before .pre in
-    let o = ordered (a .op) (length (now (a .region))) (q .1) in
-    let s = small (a .op) (length (now (a .region))) (q .1) in
-    reading-next (a .op) (now (a .region)) _ _ _ (q .0) (c .before .before .loop .inv) (omega (arith, c .before .before .before .before .last-unit .ensures, c .before .loop-test .taken)) (c .load .ensures)
-
-returns : tie.Need-returns Inv-loop μ-loop
+returns : tie.Need-returns
 returns c =
-    let a = c .before .before .before .before .before .args in
-    let q = c .before .before .before .before .before .pre in
-    let o = ordered (a .op) (length (now (a .region))) (q .1) in
-    let s = small (a .op) (length (now (a .region))) (q .1) in
-    reading-end (a .op) (now (a .region)) _ _ (c .before .loop .inv) (omega (arith, c .before .before .before .last-unit .ensures, c .loop-test .left))
+    let t = c .before .before .before .before in
+    let a = t .args in
+    let f = facts (a .op) (length (now (a .region))) (t .pre .1) in
+    c .join-units .ensures ∙ sym (ap (λ (p : Progress). p .held) (read-closed (planOf (a .op)) (t .pre .0) (now (a .region)) (omega arith) (omega arith)))
 
 pub read-units-spec : {M : Type 1} → statement M
-read-units-spec =
-    tie.close
-    (tie.spec
-    Inv-loop
-    μ-loop
-    last-unit-requires
-    first-unit-requires
-    loop-holds
-    load-requires
-    add-u
-    loop-less
-    loop-again
-    returns)
+read-units-spec = tie.close (tie.spec first-unit-requires join-units-requires returns)
