@@ -6,3 +6,4 @@ pub mod Named
 pub mod Texts
 pub mod Statuses
 pub mod Writes
+pub mod Lengths

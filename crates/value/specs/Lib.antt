@@ -2,3 +2,4 @@ pub mod Conversions
 pub mod Integers
 pub mod Status
 pub mod FieldWrites
+pub mod Lengths

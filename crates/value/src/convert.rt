@@ -3,6 +3,7 @@ ghost use mathlib.Core.Path.{_≡_};
 ghost use Prim.Native.Nat.{_≤_};
 ghost use lib.ListN;
 ghost use Rattle.value.specs.Conversions.{no as noConversion, truthNumber, bufferFieldContent, fieldUnitContent, contentInteger, contentBuffer, unitRefusal, these, given, giving, givenType, integerType, lengthType, asInteger, asBool, asBuffer, asString, asType};
+ghost use Rattle.value.specs.Lengths.{lengthOf, bufferLength, stringLength};
 use buffer_field::FieldRead;
 use buffer_field::check_buffer_field;
 use buffer_field::read_buffer_field;
@@ -167,6 +168,58 @@ pub fn as_string(value: AmlValue, bytes: &[u8], out: &mut [u8]) -> LengthAnswer
     }
     match value {
         AmlValue::String => give(bytes, out),
+        AmlValue::Field(field) => LengthAnswer::Refused(field_refused(
+            bytes,
+            field,
+            AmlType::String,
+        )),
+        _ => LengthAnswer::Refused(no(type_of(value), AmlType::String)),
+    }
+}
+
+// How many bytes a BufferField has as a Buffer.
+fn buffer_field_length(bytes: &[u8], offset: u64, length: u64) -> LengthAnswer
+    requires { ⌜ lib.ListN.length (now bytes) ≤ 65536 ⌝ }
+    ensures { λ r. ⌜ r ≡ lengthOf (contentBuffer (bufferFieldContent offset length (now (bytes .entry)))) ⌝ }
+{
+    let checked = check_buffer_field(bytes.len(), offset, length);
+    if let Outcome::Refused(r) = checked {
+        return LengthAnswer::Refused(r);
+    }
+    if length <= 64 {
+        return LengthAnswer::Refused(no(AmlType::Integer, AmlType::Buffer));
+    }
+    LengthAnswer::Length((length as usize - 1) / 8 + 1)
+}
+
+// How many bytes to buffer gives; nothing is written.
+pub fn buffer_length(value: AmlValue, bytes: &[u8]) -> LengthAnswer
+    ensures { λ r. ⌜ r ≡ bufferLength value (now (bytes .entry)) ⌝ }
+{
+    if 65536 < bytes.len() {
+        return LengthAnswer::Refused(Refusal::TooManyBytes);
+    }
+    match value {
+        AmlValue::Buffer => LengthAnswer::Length(bytes.len()),
+        AmlValue::BufferField { offset, length } => buffer_field_length(bytes, offset, length),
+        AmlValue::Field(field) => LengthAnswer::Refused(field_refused(
+            bytes,
+            field,
+            AmlType::Buffer,
+        )),
+        _ => LengthAnswer::Refused(no(type_of(value), AmlType::Buffer)),
+    }
+}
+
+// How many bytes to string gives; nothing is written.
+pub fn string_length(value: AmlValue, bytes: &[u8]) -> LengthAnswer
+    ensures { λ r. ⌜ r ≡ stringLength value (now (bytes .entry)) ⌝ }
+{
+    if 65536 < bytes.len() {
+        return LengthAnswer::Refused(Refusal::TooManyBytes);
+    }
+    match value {
+        AmlValue::String => LengthAnswer::Length(bytes.len()),
         AmlValue::Field(field) => LengthAnswer::Refused(field_refused(
             bytes,
             field,

@@ -1,0 +1,10 @@
+pub mod Lent
+pub mod Numbers
+pub mod Slicing
+pub mod Filling
+pub mod Building
+pub mod Counting
+pub mod Comparing
+pub mod Joining
+pub mod Naming
+pub mod Resources

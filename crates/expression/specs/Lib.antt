@@ -1,0 +1,5 @@
+pub mod Numbers
+pub mod Compare
+pub mod Mid
+pub mod Concat
+pub mod Build
