@@ -1,7 +1,7 @@
 // Whole bytes as a number, lowest first: a machine's load and store of 1, 2, 4 or 8 of them. Each width is two of the half, side by side.
 ghost use mathlib.Core.Path.{_≡_};
 ghost use Prim.Native.Nat.{_+_, _-_, _*_, _≤_, _<_, min};
-ghost use lib.ListN.{length, getD};
+ghost use lib.ListN.{length};
 ghost use Rattle.bits.specs.Bits.{getBits, setBits};
 use crate::word::lesser;
 use crate::word::low_byte;

@@ -1,9 +1,9 @@
 -- What reading a field gives, in each case of its checks: the checks before it do not hold, and its own does.
 -- Assumes nothing.
-use mathlib.Core.Path.{_≡_, sym, _∙_, ap}
+use mathlib.Core.Path.{_≡_}
 use mathlib.Core.Bool.{Bool, true, false}
 use mathlib.Core.List.{List}
-use Prim.Native.Nat.{ℕ, _+_, _*_, _≤_, _<_, min}
+use Prim.Native.Nat.{ℕ, _*_, _≤_, _<_, min}
 use native.Mathlib.Omega.{arith}
 use lib.ListN.{length}
 use borrow.Author.Tests.{lt-ltb, le-ltb, le-leb, lt-leb}
@@ -11,7 +11,7 @@ use Rattle.bits.specs.Bits.{getBits, runBits, withBits, bytesFor}
 use Rattle.types.specs.Refusals.{firstOf}
 use Rattle.types.specs.declared.refusal.Refusal.the-variants as R
 use Rattle.buffer_field.specs.declared.FieldRead.the-variants as F
-use Rattle.buffer_field.specs.BufferFields.{Read, read, readChecks, readValue, outOfBounds}
+use Rattle.buffer_field.specs.BufferFields.{read, readChecks, readValue, outOfBounds}
 
 module _ (s : List ℕ) (o n : ℕ) (out : List ℕ) where
   pub read-too-long : 65536 < length s → record { answer = F.Refused R.TooManyBytes; out = out } ≡ read s o n out

@@ -1,27 +1,26 @@
 -- What writing a field leaves, in each case of its checks: the checks before it do not hold, and its own does.
 -- Assumes nothing.
-use mathlib.Core.Path.{_≡_, refl, sym, _∙_, ap}
+use mathlib.Core.Path.{_≡_, refl}
 use mathlib.Core.Bool.{Bool, true, false}
 use mathlib.Core.List.{List, [], _∷_}
-use Prim.Native.Nat.{ℕ, zero, suc, _+_, _*_, _≤_, _<_, min}
+use Prim.Native.Nat.{ℕ, _≤_, _<_, min}
 use native.Mathlib.Omega.{arith}
 use denote.Enum.Declared.{tagOf}
 use types.Run.{OneOf, miss}
 use lib.ListN.{length}
 use borrow.Author.Tests.{lt-ltb, le-ltb}
-use Rattle.bits.specs.Bits.{bitOf, bitAt, withBits, setBits}
-use Rattle.bits.proofs.Laws.{bitOf-zero, bitOf-none}
+use Rattle.bits.specs.Bits.{bitOf, withBits, setBits}
+use Rattle.bits.proofs.Laws.{bitOf-zero}
 use Rattle.bits.proofs.With.{withBits-cong}
 use Rattle.types.specs.Values.{typeOf}
 use Rattle.types.specs.Refusals.{firstOf}
 use Rattle.types.specs.declared.refusal.Refusal.the-variants as R
-use Rattle.types.specs.declared.refusal.Outcome.{Outcome}
 use Rattle.types.specs.declared.refusal.Outcome.the-variants as O
 use Rattle.types.specs.declared.value.AmlValue.{AmlValue}
 use Rattle.types.specs.declared.value.AmlValue.the-variants as Val
 use Rattle.types.specs.declared.value.AmlType.{AmlType}
 use Rattle.types.proofs.value.AmlValue.{the-type}
-use Rattle.buffer_field.specs.BufferFields.{Wrote, Written, over, nothing, write, writeChecks, writeOver, written, truth, outOfBounds}
+use Rattle.buffer_field.specs.BufferFields.{over, nothing, write, writeChecks, writeOver, written, truth, outOfBounds}
 
 -- ---- of given bits: only the bounds are checked
 module _ (s : List ℕ) (o n k : ℕ) (g : ℕ → ℕ) (b : Bool) (e : b ≡ outOfBounds s o n) where

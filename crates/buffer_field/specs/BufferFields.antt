@@ -8,10 +8,8 @@ use lib.ListN.{length}
 use Rattle.bits.specs.Bits.{bitOf, bitAt, getBits, runBits, withBits, bytesFor}
 use Rattle.types.specs.Values.{typeOf}
 use Rattle.types.specs.Refusals.{Checks, firstOf, judged}
-use Rattle.types.specs.declared.refusal.Refusal.{Refusal}
 use Rattle.types.specs.declared.refusal.Refusal.the-variants as R
 use Rattle.types.specs.declared.refusal.Outcome.{Outcome}
-use Rattle.types.specs.declared.refusal.Outcome.the-variants as O
 use Rattle.types.specs.declared.value.AmlValue.{AmlValue}
 use Rattle.types.specs.declared.value.AmlValue.the-variants as Val
 use Rattle.buffer_field.specs.declared.FieldRead.{FieldRead}

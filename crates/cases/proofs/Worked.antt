@@ -2,7 +2,7 @@
 -- Assumes nothing.
 use Prim.Native.Nat.{ℕ}
 use mathlib.Core.Path.{_≡_, refl}
-use mathlib.Core.List.{List, [], _∷_, map}
+use mathlib.Core.List.{List, map}
 use Rattle.bits.specs.Bits.{bitOf, bitAt, run, bytes, put, withBits}
 use Rattle.types.specs.Refusals.{firstOf}
 use Rattle.types.specs.Flags.{accessWidth}

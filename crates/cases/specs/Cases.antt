@@ -1,16 +1,13 @@
 -- Document 01, "Cases marked W": one table. Each line has what the definitions give, as numbers, beside what the document says.
 -- Assumes nothing.
 use Prim.Native.Nat.{ℕ, _-_, _^_}
-use mathlib.Core.Bool.{Bool}
 use mathlib.Core.List.{List, [], _∷_}
 use lib.ListN.{replicate}
 use Rattle.types.specs.Refusals.{numberOf}
 use Rattle.types.specs.declared.value.RegionSpace.the-variants as S
-use Rattle.types.specs.declared.value.FieldUnit.{FieldUnit}
 use Rattle.buffer_field.specs.BufferFields as B
 use Rattle.buffer_field.specs.declared.FieldRead.{FieldRead}
 use Rattle.buffer_field.specs.declared.FieldRead.the-variants as F
-use Rattle.types.specs.declared.value.AmlValue.{AmlValue}
 use Rattle.types.specs.declared.value.AmlValue.the-variants as Val
 use Rattle.field_unit.specs.Calls as C
 use Rattle.value.specs.Conversions.{Bytes, these, none, asInteger}

@@ -3,7 +3,7 @@
 use mathlib.Core.Path.{_≡_, refl, sym, ap, _∙_}
 use mathlib.Core.Bool.{Bool}
 use mathlib.Core.List.{List, [], _∷_}
-use Prim.Native.Nat.{ℕ, suc, _+_, _-_, _*_, _≤_, _<_, min}
+use Prim.Native.Nat.{ℕ, zero, suc, _+_, _-_, _*_, _≤_, _<_, min}
 use native.Mathlib.Numerals.{add-one}
 use native.Mathlib.Omega.{arith}
 use denote.Enum.Declared.{tagOf}
@@ -11,8 +11,8 @@ use types.Run.{OneOf, miss}
 use lib.ListN.{length, getD, drop, drop-of-length-le}
 use lib.Seq.{drop-cons}
 use borrow.Author.Tests.{lt-ltb, le-ltb}
-use Rattle.bits.specs.Bits.{bitAt, run, getBits, runBits, bytes, bytesFor, from}
-use Rattle.bits.proofs.Laws.{lt-cases, run-more, run-ext, put-in, put-above, bytes-at, bytes-length}
+use Rattle.bits.specs.Bits.{bitOf, bitAt, run, getBits, runBits, bytes, bytesFor, from}
+use Rattle.bits.proofs.Laws.{lt-cases, bitAt-lt, run-bit, run-byte, run-more, run-ext, put-in, put-above, bytes-at, bytes-length}
 use Rattle.types.specs.Values.{typeOf}
 use Rattle.types.specs.declared.refusal.Refusal.{Refusal}
 use Rattle.types.specs.declared.refusal.Refusal.the-variants as R
@@ -85,6 +85,36 @@ module _ (l r : List ℕ) (i : ℕ) (u : Undecided l r i) where
     pub both-end : length r ≤ i → C.Equal ≡ compareBytes l r
     unfolding compareBytes
     both-end g = rw (drop-of-length-le l h, drop-of-length-le r g) at u
+
+-- ---- eight bytes
+
+module _ (l r : List ℕ) (i : ℕ) (bl : (j : ℕ) → getD l j 0 < 256) (br : (j : ℕ) → getD r j 0 < 256) (x y : ℕ)
+    (p : x ≡ getBits l (8 * i) 64) (q : y ≡ getBits r (8 * i) 64) (e : x ≡ y) where
+  bit-of-both : (k m : ℕ) → k < 8 → m < 8 → bitAt l (8 * (i + k) + m) ≡ bitAt r (8 * (i + k) + m)
+  bit-of-both k m h g =
+      let z : 8 * (i + k) + m ≡ 8 * i + (8 * k + m) = omega arith in
+      ap (bitAt l) z
+      ∙ sym (run-bit (bitAt l) (bitAt-lt l) (8 * i) 64 (8 * k + m) (omega arith))
+      ∙ ap (λ (v : ℕ). bitOf v (8 * k + m)) (sym p ∙ e ∙ q)
+      ∙ run-bit (bitAt r) (bitAt-lt r) (8 * i) 64 (8 * k + m) (omega arith)
+      ∙ ap (bitAt r) (sym z)
+
+  byte-of-both : (k : ℕ) → k < 8 → getD l (i + k) 0 ≡ getD r (i + k) 0
+  byte-of-both k h =
+      sym (run-byte l (i + k) (bl (i + k)))
+      ∙ run-ext (bitAt l) (bitAt r) (8 * (i + k)) (8 * (i + k)) 8 (λ m g. bit-of-both k m h g)
+      ∙ run-byte r (i + k) (br (i + k))
+
+  module _ (u : Undecided l r i) (h : i + 8 ≤ length l) (g : i + 8 ≤ length r) where
+    passed : (k : ℕ) → k ≤ 8 → Undecided l r (i + k)
+    passed zero c = let z : i + zero ≡ i = omega arith in rw z u
+    passed (suc k) c =
+        let b = byte-of-both k (omega arith) in
+        let z : i + k + 1 ≡ i + suc k = omega arith in
+        rw z at (byte-same l r (i + k) (passed k (omega arith)) (omega arith) (omega arith) (getD l (i + k) 0) (getD r (i + k) 0) refl refl (omega arith) (omega arith))
+
+    pub words-same : Undecided l r (i + 8)
+    words-same = passed 8 (omega arith)
 
 -- ---- byte i of a BufferField's Buffer: the field's bits there, zeros above them
 module _ (t : List ℕ) (o n i : ℕ) where

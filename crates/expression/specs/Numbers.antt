@@ -1,7 +1,7 @@
 -- Document 01, "Operators": Add, And, increment, decrement, shifts. "Two operands: left, then right, then the operator's own number."
 -- Assumes nothing.
 use Prim.Native.Nat.{ℕ, _+_, _-_, _*_, _/_, _%_, _^_, min}
-use mathlib.Core.Bool.{Bool, cond, _||_}
+use mathlib.Core.Bool.{cond, _||_}
 use mathlib.Core.List.{List, [], _∷_}
 use lib.Dec.{ltb}
 use Rattle.bits.specs.Bits.{bitOf, run}

@@ -40,11 +40,30 @@ fn compare_numbers(both: Operands) -> CompareAnswer
     }
 }
 
+// How many first bytes are the same on both sides, eight at a time: those behind them decide.
+fn same_words(s: &[u8], t: &[u8]) -> usize
+    ensures { λ r. ⌜ (r ≤ lib.ListN.length (now (s .entry))) × (r ≤ lib.ListN.length (now (t .entry))) × (C.compareBytes (lib.ListN.drop r (now (s .entry))) (lib.ListN.drop r (now (t .entry))) ≡ C.compareBytes (now (s .entry)) (now (t .entry))) ⌝ }
+{
+    let mut i: usize = 0;
+    while 8 <= s.len() - i {
+        if t.len() - i < 8 {
+            return i;
+        }
+        let x = bits::unit::load(s, i, 8);
+        let y = bits::unit::load(t, i, 8);
+        if x != y {
+            return i;
+        }
+        i += 8;
+    }
+    i
+}
+
 // The first byte that differs decides; a prefix comes first.
 fn compare_bytes(s: &[u8], t: &[u8]) -> CompareAnswer
     ensures { λ r. ⌜ r ≡ C.compareBytes (now (s .entry)) (now (t .entry)) ⌝ }
 {
-    let mut i: usize = 0;
+    let mut i = same_words(s, t);
     while i < s.len() {
         if t.len() <= i {
             return CompareAnswer::Greater;

@@ -1,30 +1,20 @@
 -- What an accepted operation is known by: no check of it holds, so each test is false, and a false test is a fact on numbers. The rest is
 -- arithmetic with the last unit's end inside the region.
 -- Assumes nothing.
-use mathlib.Core.Path.{_≡_, refl}
-use mathlib.Core.Bool.{Bool, true, false, _||_, _&&_, not}
+use mathlib.Core.Path.{_≡_}
+use mathlib.Core.Bool.{Bool, true, _&&_}
 use Prim.Native.Nat.{ℕ, _+_, _-_, _*_, _/_, _≤_, _<_}
 use native.Mathlib.Nat.{lt-div-mul-add, div-mul-le-self, mul-le-mul-right, le-div-iff-mul-le}
 use native.Mathlib.Omega.{arith}
 use borrow.Author.Tests.{leb-false, ltb-false, eqb-false}
 use lib.Dec.{leb, ltb, eqb}
 use Rattle.types.specs.Flags.{accessBits, ruleBits, accessWidth}
-use Rattle.types.specs.Refusals.{firstOf}
-use Rattle.types.specs.declared.refusal.Outcome.the-variants as O
-use Rattle.types.specs.declared.refusal.Refusal.the-variants as R
+use Rattle.types.proofs.Judging.{NoneHolds, none-holds}
+use Rattle.types.proofs.Tests.{or-none, and-no}
 use Rattle.types.proofs.Widths.{Width, width-is, width-bounds, width-bytes}
-use Rattle.field_unit.specs.Checks.{badFlags, supported, narrow, outside, placeChecks, fieldChecks, firstUnit, lastUnit}
+use Rattle.field_unit.specs.Checks.{placeChecks, fieldChecks, firstUnit, lastUnit}
 use Rattle.field_unit.specs.Calls.{Accepted}
 use Rattle.field_unit.specs.declared.access.FieldOp.{FieldOp}
-use Rattle.field_unit.proofs.FirstOf.{first-fails, rest-fail}
-
-pub or-left : (a b : Bool) → (a || b) ≡ false → a ≡ false
-or-left true b e = e
-or-left false b e = refl
-
-pub or-right : (a b : Bool) → (a || b) ≡ false → b ≡ false
-or-right true b e = absurd (mathlib.Core.Bool.true≢false e)
-or-right false b e = e
 
 -- every unit from the first to the last meets the field, and ends no later than the last
 pub unit-inside : (w o n u : ℕ) → 0 < w → 1 ≤ n → firstUnit w o ≤ u → u ≤ lastUnit w o n
@@ -58,17 +48,13 @@ pub record Facts (write : Bool) (flags w o n size : ℕ) : Type 0 where
 abbrev pub FactsOf : FieldOp → ℕ → Type 0
 FactsOf op size = Facts (op .write) (op .field .flags .0) (accessWidth (op .field .flags .0)) (op .field .offset) (op .field .length) size
 
-place : (w o n size : ℕ) → firstOf (placeChecks w o n size) ≡ O.Done → (1 ≤ n) × (n ≤ 64) × (lastUnit w o n * w + w ≤ 8 * size)
-place w o n size e =
-    let a = first-fails (eqb n 0 || ltb 64 n) _ _ e in
-    let z = eqb-false n 0 (or-left (eqb n 0) (ltb 64 n) a) in
-    let m = ltb-false 64 n (or-right (eqb n 0) (ltb 64 n) a) in
-    let i = ltb-false (8 * size) (lastUnit w o n * w + w) (first-fails (outside w o n size) _ _ (rest-fail (eqb n 0 || ltb 64 n) _ _ e)) in
+place : (w o n size : ℕ) → NoneHolds (placeChecks w o n size) → (1 ≤ n) × (n ≤ 64) × (lastUnit w o n * w + w ≤ 8 * size)
+place w o n size h =
+    let a = or-none (eqb n 0) (ltb 64 n) (h .0) in
+    let z = eqb-false n 0 (a .0) in
+    let m = ltb-false 64 n (a .1) in
+    let i = ltb-false (8 * size) (lastUnit w o n * w + w) (h .1 .0) in
     (omega arith, m, i)
-
-writes : (write : Bool) (b : Bool) → (write && b) ≡ false → write ≡ true → b ≡ false
-writes true b e h = e
-writes false b e h = absurd (mathlib.Core.Bool.false≢true h)
 
 -- unit by unit is no more than byte by byte
 last-small : (l w size : ℕ) → 8 ≤ w → l * w + w ≤ 8 * size → l < size
@@ -76,26 +62,22 @@ last-small l w size h i = let m = native.Mathlib.Nat.mul-le-mul-left l h in omeg
 
 pub facts : (op : FieldOp) (size : ℕ) → Accepted op size → FactsOf op size
 unfolding fieldChecks
-facts op size e0 =
+facts op size e =
     let f = op .field .flags .0 in
     let w = accessWidth f in
     let o = op .field .offset in
     let n = op .field .length in
-    let e1 = rest-fail (ltb 65536 size) _ _ e0 in
-    let e2 = rest-fail (badFlags (op .write) f) _ _ e1 in
-    let e3 = rest-fail (not (supported (op .field .space))) _ _ e2 in
-    let e4 = rest-fail (eqb w 64 && narrow (op .field .space)) _ _ e3 in
-    let s = ltb-false 65536 size (first-fails (ltb 65536 size) _ _ e0) in
-    let b = first-fails (badFlags (op .write) f) _ _ e1 in
-    let a = leb-false 6 (accessBits f) (or-left (leb 6 (accessBits f)) (op .write && eqb (ruleBits f) 3) b) in
-    let r = or-right (leb 6 (accessBits f)) (op .write && eqb (ruleBits f) 3) b in
-    let p = place w o n size e4 in
+    let h = none-holds (fieldChecks (op .write) (op .field) size) e in
+    let s = ltb-false 65536 size (h .0) in
+    let b = or-none (leb 6 (accessBits f)) (op .write && eqb (ruleBits f) 3) (h .1 .0) in
+    let a = leb-false 6 (accessBits f) (b .0) in
+    let p = place w o n size (h .1 .1 .1 .1) in
     let wb = width-bounds f a in
     let l = lt-div-mul-add {a = o + n - 1} {b = w} (omega arith) in
     record {
       size-most = s;
       access = a;
-      rule = λ h. eqb-false (ruleBits f) 3 (writes (op .write) (eqb (ruleBits f) 3) r h);
+      rule = λ h. eqb-false (ruleBits f) 3 (and-no (op .write) (eqb (ruleBits f) 3) (b .1) h);
       width = width-is f a;
       width-least = wb .0;
       width-most = wb .1;

@@ -16,16 +16,9 @@ use Rattle.bits.proofs.Laws.{lt-cases, bitOf-lt, bitAt-lt, run-ext, run-bit, pu
 use Rattle.bits.proofs.With.{withBits-length, withBits-bit, withBits-cong, withBits-none, withBits-kept, withBits-bytes}
 use Rattle.types.specs.declared.flags.FieldUpdateRule.{FieldUpdateRule}
 use Rattle.types.specs.declared.flags.FieldUpdateRule.the-variants as U
-use Rattle.field_unit.specs.Accesses.{Plan, Progress, progress, first, last, units, base, lo, hi, covered, partAccesses, unitAccesses, accessesFrom, accesses, gathered, others, merged, act, acts, whole}
-use Rattle.field_unit.specs.declared.access.Access.{Access}
+use Rattle.field_unit.specs.Accesses.{Plan, progress, first, units, base, lo, hi, covered, partAccesses, unitAccesses, accessesFrom, accesses, gathered, others, merged, act, acts, whole}
 use Rattle.field_unit.specs.declared.access.Access.the-variants.{Load, Store}
-
--- ---- a list run in two parts
-
-pub acts-append : (p : Plan) (a b : List Access) (s : Progress) → acts p (a ++ b) s ≡ acts p b (acts p a s)
-unfolding acts
-acts-append p [] b s = refl
-acts-append p (x ∷ a) b s = acts-append p a b (act p x s)
+use Rattle.field_unit.proofs.Running.{acts-append}
 
 -- ---- where the units end
 

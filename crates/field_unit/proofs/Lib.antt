@@ -1,4 +1,3 @@
-pub mod FirstOf
 pub mod Spaces
 pub mod Accepted
 pub mod Units

@@ -1,7 +1,7 @@
 -- Document 01, "Field units": the list of loads and stores that a read or a write makes, and what each does.
 -- All of it is for a field of any length; 64 stands in the checks and in the answers alone.
 -- Assumes nothing.
-use Prim.Native.Nat.{ℕ, zero, suc, _+_, _-_, _*_, _/_, min, max}
+use Prim.Native.Nat.{ℕ, zero, suc, _+_, _-_, _*_, min, max}
 use mathlib.Core.Bool.{Bool, true, false, cond, _&&_, not}
 use mathlib.Core.List.{List, [], _∷_, _++_}
 use lib.Dec.{leb}

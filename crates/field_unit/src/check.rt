@@ -1,8 +1,8 @@
 // The checks of a field unit, in document 01's order: 27, 9, 28, 29, 21, 22.
-ghost use mathlib.Core.Bool.{_&&_, _||_};
+ghost use mathlib.Core.Bool.{_&&_};
 ghost use mathlib.Core.Path.{_≡_};
 ghost use Prim.Native.Nat.{_≤_};
-ghost use lib.Dec.{ltb, eqb};
+ghost use lib.Dec.{eqb};
 ghost use Rattle.types.proofs.Widths.{Width};
 ghost use Rattle.types.specs.Refusals.{firstOf};
 ghost use Rattle.field_unit.specs.Checks.{supported, narrow, badFlags, outside, placeChecks, fieldChecks};

@@ -2,7 +2,6 @@
 ghost use mathlib.Core.Bool.{cond};
 ghost use mathlib.Core.Path.{_≡_};
 ghost use Prim.Native.Nat.{_<_};
-ghost use lib.ListN.{length};
 ghost use Rattle.field_unit.specs.Accesses.{unitOf};
 ghost use Rattle.field_unit.specs.Calls.{planOf, countOf, accessAt, Accepted, count, nextAccess, stepped};
 ghost use Rattle.field_unit.specs.Left.{isStore};

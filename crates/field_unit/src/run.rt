@@ -1,5 +1,5 @@
 // The accesses of a write one after the other: a whole call makes them all, a step makes one.
-ghost use mathlib.Core.Bool.{Bool, true, false, cond, _&&_, not};
+ghost use mathlib.Core.Bool.{true, false, cond, _&&_, not};
 ghost use mathlib.Core.Path.{_≡_};
 ghost use Prim.Native.Nat.{_+_, _≤_, min};
 ghost use lib.ListN.{length, take};

@@ -17,7 +17,7 @@ use Rattle.field_unit.specs.Accesses.{Plan, first, last, units, covered, partAc
 use Rattle.field_unit.specs.Calls.{planOf, countOf, accessAt}
 use Rattle.field_unit.specs.declared.access.Access.the-variants.{Load, Store}
 use Rattle.field_unit.specs.declared.access.FieldOp.{FieldOp}
-use Rattle.task.specs.Tasks.{idle, taskAt, startChecks, started, stepChecks, accessed, isLast, taskAfter, answerAfter}
+use Rattle.task.specs.Tasks.{taskAt, startChecks, started, stepChecks, accessed, isLast, taskAfter, answerAfter}
 use Rattle.task.specs.Runs.{Call, start-call, step-call, StoreMade, Moment, storeOf, nextStore, storedBy, storesOn, called, ran, opening, AbsentOrComplete}
 use Rattle.task.specs.declared.table.Task.{Task}
 use Rattle.task.proofs.Calls.{StartPassed, start-passed, afterAccepted, start-accepted, start-refused, StepPassed, step-passed, stepAnswer, afterAccess, step-accepted, step-refused}

@@ -14,11 +14,12 @@ use Rattle.types.specs.Flags.{accessWidth, accessBits, widths}
 use Rattle.types.specs.declared.flags.FieldUpdateRule.{FieldUpdateRule}
 use Rattle.types.specs.declared.flags.FieldUpdateRule.the-variants as U
 use Rattle.field_unit.specs.Checks.{fieldChecks}
-use Rattle.field_unit.specs.Accesses.{Plan, first, last, units, covered, unitAccesses, partAccesses, accessesFrom}
+use Rattle.field_unit.specs.Accesses.{Plan, first, units, covered, unitAccesses, partAccesses, accessesFrom}
 use Rattle.field_unit.specs.Calls.{planOf, countOf, Accepted}
 use Rattle.field_unit.specs.declared.access.Access.the-variants.{Load, Store}
 use Rattle.field_unit.specs.declared.access.FieldOp.{FieldOp}
-use Rattle.task.proofs.Checks.{none-holds, or-none}
+use Rattle.types.proofs.Judging.{none-holds}
+use Rattle.types.proofs.Tests.{or-none}
 
 width-some : (flags : ℕ) → accessBits flags < 6 → 0 < accessWidth flags
 unfolding accessWidth

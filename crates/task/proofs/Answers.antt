@@ -27,8 +27,9 @@ use Rattle.task.specs.declared.table.StartAnswer.the-variants as SA
 use Rattle.task.specs.declared.table.Stepped.{Stepped}
 use Rattle.task.specs.declared.table.StepAnswer.{StepAnswer}
 use Rattle.task.specs.declared.table.StepAnswer.the-variants as ST
-use Rattle.task.proofs.Checks.{none-holds, not-false}
-use Rattle.task.proofs.Judging.{refused-first, passed-first, none-first, behind-passed, behind-refused, counted-accepted, counted-refused, counted-number, accepted-counted, made-held, made-region}
+use Rattle.types.proofs.Tests.{not-false}
+use Rattle.types.proofs.Judging.{refused, passed, none, behind-passed, behind-refused, none-holds}
+use Rattle.task.proofs.Counting.{counted-accepted, counted-refused, counted-number, accepted-counted, made-held, made-region}
 use Rattle.task.proofs.Malformed.{under-way}
 
 -- ---- a new table
@@ -45,25 +46,25 @@ new-done n h e = rw (e, le-ltb 65536 n h) refl
 
 module _ (t : Table) (n i : ℕ) where
   pub call-27 : 65536 < n → O.Refused R.TooManyBytes ≡ firstOf (callChecks t n i)
-  call-27 h = refused-first _ _ _ (lt-ltb 65536 n h)
+  call-27 h = refused _ _ _ (lt-ltb 65536 n h)
 
   module _ (few : n ≤ 65536) where
     pub call-31 : {b : Bool} → b ≡ malformed t → b ≡ true → O.Refused R.MalformedTable ≡ firstOf (callChecks t n i)
-    call-31 p h = refused-first _ _ _ (sym p ∙ h) ∙ passed-first _ _ _ (le-ltb 65536 n few)
+    call-31 p h = refused _ _ _ (sym p ∙ h) ∙ passed _ _ _ (le-ltb 65536 n few)
 
     module _ {b : Bool} (p : b ≡ malformed t) (h : b ≡ false) where
       well-on : (c : Checks) {x : Outcome} → x ≡ firstOf c → x ≡ firstOf ((ltb 65536 n, R.TooManyBytes) ∷ (malformed t, R.MalformedTable) ∷ c)
-      well-on c e = e ∙ passed-first _ _ _ (sym p ∙ h) ∙ passed-first _ _ _ (le-ltb 65536 n few)
+      well-on c e = e ∙ passed _ _ _ (sym p ∙ h) ∙ passed _ _ _ (le-ltb 65536 n few)
 
       pub call-24 : 3 < i → O.Refused R.NoSuchTask ≡ firstOf (callChecks t n i)
-      call-24 a = well-on _ (refused-first _ _ _ (lt-ltb 3 i a))
+      call-24 a = well-on _ (refused _ _ _ (lt-ltb 3 i a))
 
       module _ (small : i ≤ 3) where
         pub call-30 : (n ≡ t .size → ⊥) → O.Refused R.RegionLengthDiffers ≡ firstOf (callChecks t n i)
-        call-30 a = well-on _ (refused-first _ _ _ (ap not (ne-eqb _ _ a)) ∙ passed-first _ _ _ (le-ltb 3 i small))
+        call-30 a = well-on _ (refused _ _ _ (ap not (ne-eqb _ _ a)) ∙ passed _ _ _ (le-ltb 3 i small))
 
         pub call-done : n ≡ t .size → O.Done ≡ firstOf (callChecks t n i)
-        call-done a = well-on _ (none-first ∙ passed-first _ _ _ (ap not (eq-eqb _ _ a)) ∙ passed-first _ _ _ (le-ltb 3 i small))
+        call-done a = well-on _ (none ∙ passed _ _ _ (ap not (eq-eqb _ _ a)) ∙ passed _ _ _ (le-ltb 3 i small))
 
   -- what has passed them
   pub record CallPassed : Type 0 where
@@ -102,33 +103,33 @@ module _ (t : Table) (s : List ℕ) (i : ℕ) (o : FieldOp) where
     start-on c e = sym (e ∙ behind-passed (callChecks t (length s) i) _ p h)
 
     pub start-busy : taskAt t i .busy ≡ true → record { table = t; answer = SA.Refused R.TaskBusy } ≡ start t s i o
-    start-busy b = start-by (O.Refused R.TaskBusy) (start-on _ (refused-first _ _ _ b))
+    start-busy b = start-by (O.Refused R.TaskBusy) (start-on _ (refused _ _ _ b))
 
     module _ (b : taskAt t i .busy ≡ false) {y : UnitWritten} (q : y ≡ count o (t .size)) where
       pub start-refused : (r : Refusal) → y ≡ UW.Refused r → record { table = t; answer = SA.Refused r } ≡ start t s i o
-      start-refused r e = start-by (O.Refused r) (start-on _ (sym (counted-refused o (t .size) q r e) ∙ passed-first _ _ _ b))
+      start-refused r e = start-by (O.Refused r) (start-on _ (sym (counted-refused o (t .size) q r e) ∙ passed _ _ _ b))
 
       pub start-accepted : (n : ℕ) {u : Table} → y ≡ UW.Count n → u ≡ withTask t (t .holder) i (started o)
           → record { table = u; answer = SA.Count n } ≡ start t s i o
       start-accepted n e z =
           rw (z, counted-number o (t .size) q n e)
-          (start-by O.Done (start-on _ (sym (counted-accepted o (t .size) q n e) ∙ passed-first _ _ _ b)))
+          (start-by O.Done (start-on _ (sym (counted-accepted o (t .size) q n e) ∙ passed _ _ _ b)))
 
 -- ---- step: whose turn it is
 
 module _ (t : Table) (i : ℕ) where
   pub turn-26 : not (taskAt t i .busy) ≡ true → O.Refused R.TaskIdle ≡ firstOf (turnChecks t i)
-  turn-26 h = refused-first _ _ _ h
+  turn-26 h = refused _ _ _ h
 
   module _ (on : not (taskAt t i .busy) ≡ false) {l : Bool} (p : l ≡ carriesLock (taskAt t i .op)) where
     turn-by : (w : Bool) {x : Outcome} → waits t i ≡ w → x ≡ firstOf ((w, R.LockHeld) ∷ []) → x ≡ firstOf (turnChecks t i)
-    turn-by w e z = z ∙ ap (λ v. firstOf ((v, R.LockHeld) ∷ [])) (sym e) ∙ passed-first _ _ _ on
+    turn-by w e z = z ∙ ap (λ v. firstOf ((v, R.LockHeld) ∷ [])) (sym e) ∙ passed _ _ _ on
 
     free : O.Done ≡ firstOf ((false, R.LockHeld) ∷ [])
-    free = none-first ∙ passed-first _ _ _ refl
+    free = none ∙ passed _ _ _ refl
 
     pub turn-23 : l ≡ true → taskAt t i .made ≡ 0 → (t .holder ≡ 4 → ⊥) → O.Refused R.LockHeld ≡ firstOf (turnChecks t i)
-    turn-23 a z n = turn-by true (rw (sym p ∙ a, eq-eqb _ _ z, ne-eqb _ _ n) refl) (refused-first _ _ _ refl)
+    turn-23 a z n = turn-by true (rw (sym p ∙ a, eq-eqb _ _ z, ne-eqb _ _ n) refl) (refused _ _ _ refl)
 
     pub turn-free : l ≡ true → taskAt t i .made ≡ 0 → t .holder ≡ 4 → O.Done ≡ firstOf (turnChecks t i)
     turn-free a z n = turn-by false (rw (sym p ∙ a, eq-eqb _ _ z, eq-eqb _ _ n) refl) free
@@ -204,20 +205,20 @@ module _ (t : Table) (s : List ℕ) (i : ℕ) {x : Outcome} (p : x ≡ firstOf (
   kept-refused r h = sym (rw (sym p ∙ h) refl)
 
   module _ (h : x ≡ O.Done) {a : Accessed} {s' : List ℕ} (q : stepped a s' ≡ nextAccess s (taskAt t i .op) (taskAt t i .made) (taskAt t i .held)) where
-    passed : StepReady t (length s) i
-    passed = step-ready t (length s) i p h
+    no-refusal : StepReady t (length s) i
+    no-refusal = step-ready t (length s) i p h
 
     fits : Accepted (taskAt t i .op) (length s)
-    fits = ap (checked (taskAt t i .op)) (passed .same) ∙ passed .accepted
+    fits = ap (checked (taskAt t i .op)) (no-refusal .same) ∙ no-refusal .accepted
 
     pub step-region : s' ≡ stepRegion t s i
     unfolding stepRegion stepChecks
-    step-region = made-region s (taskAt t i .op) (taskAt t i .made) (taskAt t i .held) q fits (passed .left) ∙ sym (rw (sym p ∙ h) refl)
+    step-region = made-region s (taskAt t i .op) (taskAt t i .made) (taskAt t i .held) q fits (no-refusal .left) ∙ sym (rw (sym p ∙ h) refl)
 
     -- the access is made, and g is what is held after it
     pub step-answer : {g : ℕ} {r : Stepped} → ((n : ℕ) → a ≡ N.Held n → g ≡ n) → r ≡ advanced t i g → r ≡ step t s i
     unfolding step stepChecks
     step-answer {g} {r} e z =
         z
-        ∙ ap (advanced t i) (e _ (made-held s (taskAt t i .op) (taskAt t i .made) (taskAt t i .held) q fits (passed .left)))
+        ∙ ap (advanced t i) (e _ (made-held s (taskAt t i .op) (taskAt t i .made) (taskAt t i .held) q fits (no-refusal .left)))
         ∙ sym (rw (sym p ∙ h) refl)

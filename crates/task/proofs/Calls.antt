@@ -15,7 +15,8 @@ use Rattle.task.specs.Tasks.{taskAt, malformed, startChecks, withTask, s
 use Rattle.task.specs.Runs.{start-call, step-call, Moment, change, ends, storedBy, called}
 use Rattle.task.specs.declared.table.Table.{Table}
 use Rattle.task.specs.declared.table.StepAnswer.{StepAnswer}
-use Rattle.task.proofs.Checks.{none-holds, none-gives, not-false}
+use Rattle.types.proofs.Judging.{none-holds, none-gives}
+use Rattle.types.proofs.Tests.{not-false}
 
 -- ---- a start
 

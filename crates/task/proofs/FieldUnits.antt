@@ -22,7 +22,7 @@ use Rattle.types.specs.declared.flags.FieldUpdateRule.the-variants as U
 use Rattle.field_unit.specs.Accesses.{Plan, progress, opening, base, units, covered, unitAccesses, partAccesses, accessesFrom, accesses, gathered, merged, act, acts, whole}
 use Rattle.field_unit.specs.Accesses as F
 use Rattle.field_unit.specs.Calls.{planOf, countOf, accessAt}
-use Rattle.field_unit.proofs.Closed.{acts-append}
+use Rattle.field_unit.proofs.Running.{acts-append}
 use Rattle.field_unit.specs.declared.access.Access.{Access}
 use Rattle.field_unit.specs.declared.access.Access.the-variants.{Load, Store}
 use Rattle.field_unit.specs.declared.access.FieldOp.{FieldOp}

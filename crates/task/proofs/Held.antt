@@ -14,13 +14,13 @@ use Rattle.bits.specs.Bits.{bitOf, put, from, getBits, setBits}
 use Rattle.bits.proofs.Laws.{lt-cases, bitOf-lt, run-ext, run-bit, run-mod, put-in, put-below, put-cases, put-cong}
 use Rattle.types.specs.declared.flags.FieldUpdateRule.{FieldUpdateRule}
 use Rattle.types.specs.declared.flags.FieldUpdateRule.the-variants as U
-use Rattle.field_unit.specs.Accesses.{Plan, progress, first, last, units, base, lo, hi, covered, keeps, partAccesses, unitAccesses, accessesFrom, accesses, gathered, others, merged, act}
+use Rattle.field_unit.specs.Accesses.{Plan, progress, first, last, units, base, lo, hi, covered, keeps, partAccesses, unitAccesses, accessesFrom, gathered, others, merged, act}
 use Rattle.field_unit.specs.Calls.{planOf, countOf, accessAt}
 use Rattle.field_unit.specs.declared.access.Access.{Access}
 use Rattle.field_unit.specs.declared.access.Access.the-variants.{Load, Store}
 use Rattle.field_unit.specs.declared.access.FieldOp.{FieldOp}
 use Rattle.task.specs.Held.{Given, OnlyGivenBitsCount}
-use Rattle.task.proofs.Checks.{and-both}
+use Rattle.types.proofs.Tests.{and-both}
 
 -- ---- how many of the held bits an access goes by
 

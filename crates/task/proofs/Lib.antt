@@ -1,6 +1,5 @@
 pub mod FieldUnits
-pub mod Checks
-pub mod Judging
+pub mod Counting
 pub mod Malformed
 pub mod Answers
 pub mod Accepted

@@ -16,8 +16,8 @@ use Rattle.field_unit.specs.declared.whole.UnitWritten.the-variants as UW
 use Rattle.task.specs.Tasks.{taskAt, carriesLock, locks, numbersOf, lockers, wrongHolder, refused, badTask, malformed}
 use Rattle.task.specs.declared.table.Task.{Task}
 use Rattle.task.specs.declared.table.Table.{Table}
-use Rattle.task.proofs.Checks.{or-none, and-no}
-use Rattle.task.proofs.Judging.{counted-accepted, counted-refused, counted-number}
+use Rattle.types.proofs.Tests.{or-none, and-no}
+use Rattle.task.proofs.Counting.{counted-accepted, counted-refused, counted-number}
 
 -- ---- a task
 

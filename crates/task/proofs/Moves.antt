@@ -21,7 +21,7 @@ use Rattle.task.specs.declared.table.Task.{Task}
 use Rattle.task.specs.declared.table.Table.{Table}
 use Rattle.task.specs.declared.table.StepAnswer.{StepAnswer}
 use Rattle.task.specs.declared.table.StepAnswer.the-variants as ST
-use Rattle.task.proofs.Checks.{and-true}
+use Rattle.types.proofs.Tests.{and-true}
 use Rattle.task.proofs.FieldUnits.{storesAt, lastAnswer, fields, region-at, held-after}
 use Rattle.task.proofs.Calls.{StartPassed, start-passed, afterAccepted, start-accepted, start-refused, StepPassed, step-passed, stepAnswer, afterAccess, step-accepted, step-refused}
 use Rattle.task.proofs.Sound.{Sound, set-this, set-other, no-other, sound-call}

@@ -18,7 +18,7 @@ use Rattle.task.specs.Tasks.{taskAt, carriesLock}
 use Rattle.task.specs.Runs.{Call, Moment, called, ran, opening, Touches, Agreed, AgreedThroughout}
 use Rattle.task.specs.declared.table.Task.{Task}
 use Rattle.task.specs.declared.table.Table.{Table}
-use Rattle.task.proofs.Checks.{and-both, and-true}
+use Rattle.types.proofs.Tests.{and-both, and-true}
 use Rattle.task.proofs.Sound.{Sound, sound-fresh, sound-call, beyond}
 
 -- ---- two tasks

@@ -23,7 +23,7 @@ use Rattle.task.specs.Tasks.{idle, taskAt, fresh, carriesLock, locks, wr
 use Rattle.task.specs.Runs.{Call, start-call, step-call, Moment, called, ran, opening, NeverMalformed}
 use Rattle.task.specs.declared.table.Task.{Task}
 use Rattle.task.specs.declared.table.Table.{Table}
-use Rattle.task.proofs.Checks.{and-both, and-true, and-no, or-false, not-false}
+use Rattle.types.proofs.Tests.{and-both, and-true, and-no, or-false, not-false}
 use Rattle.task.proofs.Accepted.{accepted-count}
 use Rattle.task.proofs.Calls.{StartPassed, start-passed, start-accepted, start-refused, StepPassed, step-passed, step-accepted, step-refused}
 

@@ -7,13 +7,11 @@ use lib.Dec.{leb, ltb, eqb}
 use lib.ListN.{length, getD, set, replicate}
 use Rattle.types.specs.Flags.{lockRule}
 use Rattle.types.specs.Refusals.{Checks, firstOf, judged}
-use Rattle.types.specs.declared.refusal.Refusal.{Refusal}
 use Rattle.types.specs.declared.refusal.Refusal.the-variants as R
 use Rattle.types.specs.declared.refusal.Outcome.{Outcome}
 use Rattle.types.specs.declared.refusal.Outcome.the-variants as O
 use Rattle.types.specs.declared.value.RegionSpace.the-variants as S
 use Rattle.types.specs.declared.value.FieldUnit.{FieldUnit}
-use Rattle.types.specs.declared.flags.FieldFlags.{FieldFlags}
 use Rattle.field_unit.specs.Checks.{fieldChecks}
 use Rattle.field_unit.specs.Accesses.{Progress, progress, act}
 use Rattle.field_unit.specs.Calls.{planOf, countOf, checked, accessAt}
@@ -22,7 +20,6 @@ use Rattle.task.specs.declared.table.Task.{Task}
 use Rattle.task.specs.declared.table.Table.{Table}
 use Rattle.task.specs.declared.table.Made.{Made}
 use Rattle.task.specs.declared.table.Started.{Started}
-use Rattle.task.specs.declared.table.StartAnswer.{StartAnswer}
 use Rattle.task.specs.declared.table.StartAnswer.the-variants as SA
 use Rattle.task.specs.declared.table.Stepped.{Stepped}
 use Rattle.task.specs.declared.table.StepAnswer.{StepAnswer}

@@ -1,6 +1,5 @@
 // Malformed tables: a region length over 65,536, a busy task that no start would have accepted or that is past its end, a wrong holder.
 ghost use mathlib.Core.Path.{_≡_};
-ghost use Prim.Native.Nat.{_<_};
 ghost use Rattle.task.specs.Tasks as T;
 use crate::table::Table;
 use crate::table::Task;
@@ -33,31 +32,15 @@ fn locks(k: Task) -> bool
 fn bad_task(size: u64, k: Task) -> bool
     ensures { λ r. ⌜ r ≡ T.badTask size k ⌝ }
 {
-    let op = k.op;
     if !k.busy {
         return false;
     }
+    let op = k.op;
     let counted = count_accesses(op, size);
     match counted {
         UnitWritten::Count(n) => n <= k.made,
         UnitWritten::Refused(_) => true,
     }
-}
-
-fn is_bad_at(table: Table, task: usize) -> bool
-    requires { ⌜ task < 4 ⌝ }
-    ensures { λ r. ⌜ r ≡ T.badTask (table .size) (T.taskAt table task) ⌝ }
-{
-    let k = table.tasks[task];
-    bad_task(table.size, k)
-}
-
-fn locks_at(table: Table, task: usize) -> bool
-    requires { ⌜ task < 4 ⌝ }
-    ensures { λ r. ⌜ r ≡ T.locks (T.taskAt table task) ⌝ }
-{
-    let k = table.tasks[task];
-    locks(k)
 }
 
 // Does the holder differ from the one task of the four that has the lock?
@@ -104,22 +87,22 @@ impl Table {
         if 65536 < self.size {
             return true;
         }
-        if is_bad_at(self, 0) {
+        let a = self.tasks[0];
+        if bad_task(self.size, a) {
             return true;
         }
-        if is_bad_at(self, 1) {
+        let b = self.tasks[1];
+        if bad_task(self.size, b) {
             return true;
         }
-        if is_bad_at(self, 2) {
+        let c = self.tasks[2];
+        if bad_task(self.size, c) {
             return true;
         }
-        if is_bad_at(self, 3) {
+        let d = self.tasks[3];
+        if bad_task(self.size, d) {
             return true;
         }
-        let a = locks_at(self, 0);
-        let b = locks_at(self, 1);
-        let c = locks_at(self, 2);
-        let d = locks_at(self, 3);
-        is_wrong_holder(a, b, c, d, self.holder)
+        is_wrong_holder(locks(a), locks(b), locks(c), locks(d), self.holder)
     }
 }

@@ -13,7 +13,7 @@ use lib.Seq.{drop-cons}
 use Rattle.text.specs.Texts.{digitOf, allDigits, valueFrom, numberOf}
 use Rattle.text.specs.declared.Number.the-variants.{Is, Bad}
 
-and-false : (a : Bool) → (a && false) ≡ false
+pub and-false : (a : Bool) → (a && false) ≡ false
 and-false true = refl
 and-false false = refl
 

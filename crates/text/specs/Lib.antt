@@ -1,1 +1,4 @@
+pub mod Lines
+pub mod Pairs
 pub mod Texts
+pub mod Written

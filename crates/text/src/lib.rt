@@ -1,5 +1,8 @@
-// Numbers in texts: decimal digits, hex digits of either case. Leading zeros are free.
+// Texts: the numbers that digits say (decimal, hex of either case, leading zeros free), lines and hex pairs, and what is written.
 // No public function has a `requires`.
+pub mod lines; // lines, names, hex pairs: what is read
+pub mod written; // bytes, hex pairs, decimal numbers: what is written
+
 ghost use mathlib.Core.Path.{_≡_};
 ghost use Prim.Native.Nat.{_≤_};
 ghost use Rattle.text.specs.Texts.{digitOf, numberOf};

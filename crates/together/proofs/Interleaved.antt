@@ -9,7 +9,7 @@ use mathlib.Core.Path.{_≡_, refl, sym, ap, _∙_, subst}
 use mathlib.Core.Logic.{_⊎_, inl, inr, Dec·and}
 use mathlib.Core.Bool.{Bool, true, false, cond, true≢false, Bool-discrete}
 use mathlib.Core.List.{List}
-use Rattle.together.specs.System.{System, Laws, Agree, putAll, first, Slot, Ended, Active, opsOf, Apart, overlay, AtEveryMoment, OnceAllEnded}
+use Rattle.together.specs.System.{System, Laws, Agree, putAll, Slot, Ended, Active, opsOf, Apart, overlay, AtEveryMoment, OnceAllEnded}
 use Rattle.together.proofs.Alone.{storesOf, stored, putAll-keeps, putAll-good, stores-frame, stores-quiet, first-local, stores-local, whole-keeps, whole-good}
 use Rattle.together.proofs.Invariant.{Slots, Fine, Mine, after, Inv, by-made, inv-run}
 

@@ -1,3 +1,5 @@
 pub mod Table
 pub mod Widths
 pub mod Carried
+pub mod Judging
+pub mod Tests

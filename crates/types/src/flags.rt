@@ -1,6 +1,6 @@
 // A field's flags byte: bits 0 to 3 access type, 4 lock rule, 5 and 6 update rule, 7 ignored. Each part is answered by its own bits.
 ghost use mathlib.Core.Path.{_≡_};
-ghost use Rattle.types.specs.Flags.{accessType, lockRule, updateRule, accessBits, accessWidth};
+ghost use Rattle.types.specs.Flags.{accessType, lockRule, updateRule, accessWidth};
 use crate::refusal::Refusal;
 
 pub enum FieldAccessType {

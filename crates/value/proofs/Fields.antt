@@ -15,14 +15,12 @@ use Rattle.types.specs.declared.refusal.Refusal.{Refusal}
 use Rattle.types.specs.declared.refusal.Refusal.the-variants as R
 use Rattle.types.specs.declared.refusal.Outcome.the-variants as O
 use Rattle.types.specs.declared.value.AmlType.the-variants as T
-use Rattle.buffer_field.specs.BufferFields.{Read, read, boundsChecks}
-use Rattle.buffer_field.specs.declared.FieldRead.{FieldRead}
-use Rattle.buffer_field.specs.declared.FieldRead.the-variants as F
+use Rattle.buffer_field.specs.BufferFields.{boundsChecks}
 use Rattle.buffer_field.proofs.Bounds.{bounds-outside, bounds-done}
-use Rattle.buffer_field.proofs.Reading.{read-outside, read-integer, read-no-room, read-buffer}
 use Rattle.field_unit.specs.declared.whole.UnitRead.{UnitRead}
 use Rattle.field_unit.specs.declared.whole.UnitRead.the-variants as UR
-use Rattle.value.specs.Conversions.{number, bytesRead, refusal, bufferFieldContent, unitContent, unitRefusal, contentInteger, none, contentBuffer, contentString, no, Given, given, giving}
+use Rattle.value.specs.Conversions.{Content, Bytes, these, number, bytesRead, refusal, bufferFieldContent, unitContent, unitRefusal, contentInteger, none, contentBuffer, contentString, given, giving, into}
+use Rattle.value.specs.Lengths.{lengthOf}
 use Rattle.value.specs.declared.convert.IntegerAnswer.the-variants as IA
 use Rattle.value.specs.declared.convert.LengthAnswer.{LengthAnswer}
 use Rattle.value.specs.declared.convert.LengthAnswer.the-variants as LA
@@ -86,58 +84,53 @@ module _ (o n : ℕ) (s : List ℕ) where
 
 -- ---- to buffer
 
--- what reading a BufferField answers, taken as a Buffer
-abbrev pub bufferAnswer : FieldRead → LengthAnswer
-bufferAnswer (F.Integer x) = LA.Refused (no T.Integer T.Buffer)
-bufferAnswer (F.Buffer m) = LA.Length m
-bufferAnswer (F.Refused r) = LA.Refused r
+-- by what counting its bytes answered
+module _ (s : List ℕ) (o n : ℕ) (out : List ℕ) (a : LengthAnswer) (e : a ≡ lengthOf (contentBuffer (bufferFieldContent o n s))) where
+  pub counted-refused : (r : Refusal) → a ≡ LA.Refused r → given a out ≡ giving (contentBuffer (bufferFieldContent o n s)) out
+  counted-refused r d = ap (λ (x : LengthAnswer). given x out) d ∙ go (contentBuffer (bufferFieldContent o n s)) (sym e ∙ d)
+    where
+      go : (b : Bytes) → lengthOf b ≡ LA.Refused r → given (LA.Refused r) out ≡ giving b out
+      go (none q) p = ap (λ (x : LengthAnswer). given x out) (sym p) ∙ sym (giving-none q out)
+      go (these l) p = let z : _≡_ {A = ℕ} 0 1 = cc p in absurd (omega arith)
 
-abbrev pub givenRead : Read → Given
-givenRead r = given (bufferAnswer (r .answer)) (r .out)
+  module _ (m : ℕ) (d : a ≡ LA.Length m) where
+    these-bytes : contentBuffer (bufferFieldContent o n s) ≡ these (bytes (runBits s o n) 0 (bytesFor n))
+    these-bytes =
+        lt-cases (8 * length s) (o + n) (contentBuffer (bufferFieldContent o n s) ≡ these (bytes (runBits s o n) 0 (bytesFor n)))
+        (λ h. not-counted (content-outside o n s h))
+        (λ h.
+        lt-cases 64 n (contentBuffer (bufferFieldContent o n s) ≡ these (bytes (runBits s o n) 0 (bytesFor n)))
+        (λ long. ap contentBuffer (content-bytes o n s h long))
+        (λ short. not-number (content-number o n s h short)))
+      where
+        counted : lengthOf (contentBuffer (bufferFieldContent o n s)) ≡ LA.Length m
+        counted = sym e ∙ d
 
-module _ (s : List ℕ) (o n : ℕ) (out : List ℕ) (l : length s ≤ 65536) (b : (j : ℕ) → getD out j 0 < 256) where
-  module _ (h : o + n ≤ 8 * length s) where
-    long-read : 64 < n → givenRead (read s o n out) ≡ giving (contentBuffer (bufferFieldContent o n s)) out
-    long-read long =
-        let m = bytes-length (runBits s o n) 0 (bytesFor n) in
-        let e = sym (le-ltb (8 * length s) (o + n) h) in
-        lt-cases (length out) (bytesFor n) (givenRead (read s o n out) ≡ giving (contentBuffer (bufferFieldContent o n s)) out)
-        (λ few.
-        rw (← read-no-room s o n out false l e refl long few, content-bytes o n s h long)
-        (sym (giving-short (bytes (runBits s o n) 0 (bytesFor n)) out (omega arith))))
-        (λ room.
-        rw (← read-buffer s o n out false l e refl long room (withBits out 0 (8 * bytesFor n) (runBits s o n)) refl, content-bytes o n s h long)
-        (rw (giving-these (bytes (runBits s o n) 0 (bytesFor n)) out (omega arith), bits-into out (bytesFor n) (runBits s o n) b room, m)))
+        not-counted : {r : Refusal} {A : Type 0} → bufferFieldContent o n s ≡ refusal r → A
+        not-counted q = let z : _≡_ {A = ℕ} 0 1 = cc (sym (ap (λ (c : Content). lengthOf (contentBuffer c)) q) ∙ counted) in absurd (omega arith)
 
-    short-read : n ≤ 64 → givenRead (read s o n out) ≡ giving (contentBuffer (bufferFieldContent o n s)) out
-    short-read short =
-        let m : min n 64 ≡ n = omega arith in
-        rw (← read-integer s o n out false l (sym (le-ltb (8 * length s) (o + n) h)) refl short (getBits s o n) (rw m), content-number o n s h short)
-        (sym (giving-none (no T.Integer T.Buffer) out))
+        not-number : {x : ℕ} {A : Type 0} → bufferFieldContent o n s ≡ number x → A
+        not-number q = let z : _≡_ {A = ℕ} 0 1 = cc (sym (ap (λ (c : Content). lengthOf (contentBuffer c)) q) ∙ counted) in absurd (omega arith)
 
-  -- a BufferField read is its content given as a Buffer
-  pub read-given : givenRead (read s o n out) ≡ giving (contentBuffer (bufferFieldContent o n s)) out
-  read-given =
-      lt-cases (8 * length s) (o + n) (givenRead (read s o n out) ≡ giving (contentBuffer (bufferFieldContent o n s)) out)
-      (λ h.
-      rw (← read-outside s o n out true l (sym (lt-ltb (8 * length s) (o + n) h)) refl, content-outside o n s h)
-      (sym (giving-none R.BufferFieldIndexesOutOfBounds out)))
-      (λ h. lt-cases 64 n (givenRead (read s o n out) ≡ giving (contentBuffer (bufferFieldContent o n s)) out) (long-read h) (short-read h))
+    counted-length : m ≡ bytesFor n
+    counted-length =
+        let q : LA.Length m ≡ LA.Length (length (bytes (runBits s o n) 0 (bytesFor n))) = sym d ∙ e ∙ ap lengthOf these-bytes in
+        let p : m ≡ length (bytes (runBits s o n) 0 (bytesFor n)) = cc q in
+        p ∙ bytes-length (runBits s o n) 0 (bytesFor n)
 
-  -- by what the read answered
-  module _ (a : FieldRead) (t : List ℕ) (e : record { answer = a; out = t } ≡ read s o n out) where
-    gives : given (bufferAnswer a) t ≡ giving (contentBuffer (bufferFieldContent o n s)) out
-    gives = ap givenRead e ∙ read-given
+    pub counted-short : length out < m → given (LA.Refused R.OutputTooShort) out ≡ giving (contentBuffer (bufferFieldContent o n s)) out
+    counted-short h =
+        let w = counted-length in
+        let k = bytes-length (runBits s o n) 0 (bytesFor n) in
+        rw these-bytes (sym (giving-short (bytes (runBits s o n) 0 (bytesFor n)) out (omega arith)))
 
-    pub read-number : (x : ℕ) → a ≡ F.Integer x → (r : Refusal) → r ≡ no T.Integer T.Buffer
-        → given (LA.Refused r) t ≡ giving (contentBuffer (bufferFieldContent o n s)) out
-    read-number x q r p = ap (λ (y : LengthAnswer). given y t) (ap LA.Refused p ∙ sym (ap bufferAnswer q)) ∙ gives
-
-    pub read-bytes : (m : ℕ) → a ≡ F.Buffer m → given (LA.Length m) t ≡ giving (contentBuffer (bufferFieldContent o n s)) out
-    read-bytes m q = ap (λ (y : LengthAnswer). given y t) (sym (ap bufferAnswer q)) ∙ gives
-
-    pub read-refused : (r : Refusal) → a ≡ F.Refused r → given (LA.Refused r) t ≡ giving (contentBuffer (bufferFieldContent o n s)) out
-    read-refused r q = ap (λ (y : LengthAnswer). given y t) (sym (ap bufferAnswer q)) ∙ gives
+    pub counted-given : m ≤ length out → ((j : ℕ) → getD out j 0 < 256) → (t : List ℕ) → t ≡ withBits out 0 (8 * bytesFor n) (runBits s o n)
+        → given (LA.Length m) t ≡ giving (contentBuffer (bufferFieldContent o n s)) out
+    counted-given h b t q =
+        let w = counted-length in
+        let k = bytes-length (runBits s o n) 0 (bytesFor n) in
+        rw (these-bytes, giving-these (bytes (runBits s o n) 0 (bytesFor n)) out (omega arith), q, bits-into out (bytesFor n) (runBits s o n) b (omega arith))
+        (ap (λ (x : ℕ). given (LA.Length x) (into (bytes (runBits s o n) 0 (bytesFor n)) out)) (w ∙ sym k))
 
 -- ---- a FieldUnit gives an Integer or its own refusal: neither a Buffer nor a String comes of it
 pub unit-no-buffer : (u : UnitRead) → contentBuffer (unitContent u) ≡ none (unitRefusal (unitContent u) T.Buffer)

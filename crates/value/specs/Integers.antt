@@ -1,8 +1,8 @@
 -- Document 01, "Conversions": `ToInteger`.
 -- Assumes nothing.
 use Prim.Native.Nat.{ℕ}
-use mathlib.Core.Bool.{Bool, true, false, cond, _&&_}
-use mathlib.Core.List.{List, [], _∷_}
+use mathlib.Core.Bool.{Bool, cond, _&&_}
+use mathlib.Core.List.{List}
 use lib.Dec.{eqb, leb}
 use lib.ListN.{length, getD, drop}
 use Rattle.types.specs.declared.value.AmlType.the-variants as T

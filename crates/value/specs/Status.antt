@@ -2,7 +2,7 @@
 -- a status has all five true." 10: "not an Integer (Boolean included), or a bit from 5 up set".
 -- Assumes nothing.
 use Prim.Native.Nat.{ℕ, _^_}
-use mathlib.Core.Bool.{Bool, true, false, cond}
+use mathlib.Core.Bool.{Bool, true, cond}
 use mathlib.Core.List.{List}
 use lib.Dec.{eqb, ltb}
 use Rattle.bits.specs.Bits.{bitOf}

@@ -4,9 +4,7 @@ ghost use Prim.Native.Nat.{_≤_};
 ghost use lib.ListN;
 ghost use Rattle.value.specs.Conversions.{no as noConversion, truthNumber, bufferFieldContent, fieldUnitContent, contentInteger, contentBuffer, unitRefusal, these, given, giving, givenType, integerType, lengthType, asInteger, asBool, asBuffer, asString, asType};
 ghost use Rattle.value.specs.Lengths.{lengthOf, bufferLength, stringLength};
-use buffer_field::FieldRead;
 use buffer_field::check_buffer_field;
-use buffer_field::read_buffer_field;
 use field_unit::whole::UnitRead;
 use field_unit::whole::read_field;
 use types::refusal::Outcome;
@@ -116,17 +114,35 @@ fn give(bytes: &[u8], out: &mut [u8]) -> LengthAnswer
     LengthAnswer::Length(bytes::copy(bytes, out))
 }
 
+// How many bytes a BufferField has as a Buffer.
+fn buffer_field_length(bytes: &[u8], offset: u64, length: u64) -> LengthAnswer
+    requires { ⌜ lib.ListN.length (now bytes) ≤ 65536 ⌝ }
+    ensures { λ r. ⌜ r ≡ lengthOf (contentBuffer (bufferFieldContent offset length (now (bytes .entry)))) ⌝ }
+{
+    let checked = check_buffer_field(bytes.len(), offset, length);
+    if let Outcome::Refused(r) = checked {
+        return LengthAnswer::Refused(r);
+    }
+    if length <= 64 {
+        return LengthAnswer::Refused(no(AmlType::Integer, AmlType::Buffer));
+    }
+    LengthAnswer::Length((length as usize - 1) / 8 + 1)
+}
+
 // A BufferField over 64 bits is a Buffer; a shorter one is an Integer, which is none.
 fn buffer_field_buffer(bytes: &[u8], offset: u64, length: u64, out: &mut [u8]) -> LengthAnswer
     requires { ⌜ lib.ListN.length (now bytes) ≤ 65536 ⌝ }
     ensures { λ r. ⌜ given r (now (out .exit)) ≡ giving (contentBuffer (bufferFieldContent offset length (now (bytes .entry)))) (now (out .entry)) ⌝ }
 {
-    let read = read_buffer_field(bytes, offset, length, out);
-    match read {
-        FieldRead::Integer(_) => LengthAnswer::Refused(no(AmlType::Integer, AmlType::Buffer)),
-        FieldRead::Buffer(n) => LengthAnswer::Length(n),
-        FieldRead::Refused(r) => LengthAnswer::Refused(r),
+    let counted = buffer_field_length(bytes, offset, length);
+    let LengthAnswer::Length(n) = counted else {
+        return counted;
+    };
+    if out.len() < n {
+        return LengthAnswer::Refused(Refusal::OutputTooShort);
     }
+    bits::long::read_long(bytes, offset as usize, length as usize, out);
+    LengthAnswer::Length(n)
 }
 
 // A FieldUnit is read, with its own refusals; what it gives is an Integer, which is not of the type wanted.
@@ -175,21 +191,6 @@ pub fn as_string(value: AmlValue, bytes: &[u8], out: &mut [u8]) -> LengthAnswer
         )),
         _ => LengthAnswer::Refused(no(type_of(value), AmlType::String)),
     }
-}
-
-// How many bytes a BufferField has as a Buffer.
-fn buffer_field_length(bytes: &[u8], offset: u64, length: u64) -> LengthAnswer
-    requires { ⌜ lib.ListN.length (now bytes) ≤ 65536 ⌝ }
-    ensures { λ r. ⌜ r ≡ lengthOf (contentBuffer (bufferFieldContent offset length (now (bytes .entry)))) ⌝ }
-{
-    let checked = check_buffer_field(bytes.len(), offset, length);
-    if let Outcome::Refused(r) = checked {
-        return LengthAnswer::Refused(r);
-    }
-    if length <= 64 {
-        return LengthAnswer::Refused(no(AmlType::Integer, AmlType::Buffer));
-    }
-    LengthAnswer::Length((length as usize - 1) / 8 + 1)
 }
 
 // How many bytes to buffer gives; nothing is written.

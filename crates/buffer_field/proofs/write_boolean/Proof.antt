@@ -1,6 +1,6 @@
 -- `buffer_field::write_boolean` meets its contract: refused outside the buffer, and done by a write of one bit at most.
 -- Assumes nothing.
-use mathlib.Core.Path.{_≡_, _∙_}
+use mathlib.Core.Path.{_∙_}
 use Rattle.buffer_field.proofs.Writing.{over-outside, over-done, boolean-bits}
 use borrow.Author.Needs.{needs}
 use Rattle.buffer_field.proofs.write_boolean.Statement.{statement}

@@ -1,6 +1,6 @@
 -- `buffer_field::write_buffer_field` meets its contract: each return is a case of writing, by the tests and the value's kind on the way to it.
 -- Assumes nothing.
-use mathlib.Core.Path.{_≡_, refl, _∙_}
+use mathlib.Core.Path.{_∙_}
 use Rattle.buffer_field.proofs.Writing.{write-too-long, write-bytes-too-long, write-bits, write-nothing, writes-nothing}
 use borrow.Author.Needs.{needs}
 use Rattle.buffer_field.proofs.write_buffer_field.Statement.{statement}

@@ -1,6 +1,6 @@
 -- `buffer_field::write_buffer_field_bytes` meets its contract: each return is a case of writing a Buffer.
 -- Assumes nothing.
-use mathlib.Core.Path.{_≡_, refl, _∙_}
+use mathlib.Core.Path.{refl, _∙_}
 use Rattle.bits.specs.Bits.{bitAt}
 use Rattle.buffer_field.proofs.Writing.{over-outside, over-done, write-too-long, write-bytes-too-long, write-bits}
 use borrow.Author.Needs.{needs}

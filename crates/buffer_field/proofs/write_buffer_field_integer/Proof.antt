@@ -1,6 +1,6 @@
 -- `buffer_field::write_buffer_field_integer` meets its contract: each return is a case of writing an Integer, beside which no byte is lent.
 -- Assumes nothing.
-use mathlib.Core.Path.{_≡_, refl, _∙_}
+use mathlib.Core.Path.{refl, _∙_}
 use mathlib.Core.List.{[]}
 use native.Mathlib.Omega.{arith}
 use Rattle.bits.specs.Bits.{bitOf}

@@ -1,7 +1,7 @@
 -- `buffer_field::write_buffer_field_self` meets its contract: each return is a case of writing a Buffer, whose bytes are the buffer's own.
 -- Assumes nothing.
 use Rattle.bits.specs.Bits.{bitAt}
-use mathlib.Core.Path.{_≡_, refl, _∙_}
+use mathlib.Core.Path.{refl, _∙_}
 use Rattle.buffer_field.proofs.Writing.{over-outside, over-done, write-too-long, write-bits}
 use borrow.Author.Needs.{needs}
 use Rattle.buffer_field.proofs.write_buffer_field_self.Statement.{statement}

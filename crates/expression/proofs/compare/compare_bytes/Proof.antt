@@ -15,8 +15,11 @@ Inv-loop s t i₀ i = (i ≤ length s) × (i ≤ length t) × Undecided s t i
 abbrev μ-loop : tie.MeasureT-loop
 μ-loop s t i₀ i = length s - i
 
+same-words-requires : tie.Need-same-words-requires Inv-loop μ-loop
+same-words-requires c κs = search needs
+
 loop-holds : tie.Need-loop-holds Inv-loop μ-loop
-loop-holds c = (search needs, search needs, refl)
+loop-holds c = (c .same-words .ensures .0, c .same-words .ensures .1, c .same-words .ensures .2)
 
 returns : tie.Need-returns Inv-loop μ-loop
 returns c = search right-ends
@@ -55,6 +58,7 @@ compare-bytes-spec =
     (tie.spec
     Inv-loop
     μ-loop
+    same-words-requires
     loop-holds
     returns
     shared-slice-read-x

@@ -9,8 +9,8 @@ use borrow.Author.Tests.{lt-ltb, le-ltb, leb-false}
 use lib.Dec.{leb, eqb}
 use Rattle.types.specs.Flags.{accessBits, ruleBits}
 use Rattle.field_unit.specs.Checks.{narrow, placeChecks, fieldChecks}
-use Rattle.field_unit.proofs.FirstOf.{refused, passed}
-use Rattle.field_unit.proofs.Accepted.{or-left}
+use Rattle.types.proofs.Judging.{refused, passed}
+use Rattle.types.proofs.Tests.{or-none}
 use borrow.Author.Needs.{needs}
 use Rattle.field_unit.proofs.check.check_field.Statement.{statement}
 use Rattle.field_unit.proofs.check.check_field.Tie as tie
@@ -62,7 +62,7 @@ check-place-requires c κs =
     let t = w .before .before .before in
     let a = t .before .before .before .before .args in
     let f = a .field .flags .0 in
-    let i = leb-false 6 (accessBits f) (or-left (leb 6 (accessBits f)) (a .write && eqb (ruleBits f) 3) (sym (t .before .bad-flags .ensures) ∙ t .if2 .left)) in
+    let i = leb-false 6 (accessBits f) (or-none (leb 6 (accessBits f)) (a .write && eqb (ruleBits f) 3) (sym (t .before .bad-flags .ensures) ∙ t .if2 .left) .0) in
     (rw (w .access-width .ensures) (width-is f i), t .before .before .if1 .left)
 
 returns-5 : tie.Need-returns-5

@@ -2,7 +2,7 @@
 -- Assumes nothing.
 use mathlib.Core.Path.{_∙_, sym}
 use borrow.Author.Tests.{lt-ltb, le-ltb, eq-eqb, ne-eqb}
-use Rattle.field_unit.proofs.FirstOf.{refused, passed, none}
+use Rattle.types.proofs.Judging.{refused, passed, none}
 use borrow.Author.Needs.{needs}
 use Rattle.field_unit.proofs.check.check_place.Statement.{statement}
 use Rattle.field_unit.proofs.check.check_place.Tie as tie

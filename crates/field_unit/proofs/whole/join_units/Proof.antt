@@ -1,8 +1,8 @@
 -- `field_unit::whole::join_units` meets its contract. After each unit the value is the field's bits up to the unit's end, as far as 64 bits hold
 -- them (Joining); once these are the field's and more, the field's own are cut out. The measure is how many bits are left.
 -- Assumes nothing.
-use mathlib.Core.Path.{_≡_, _∙_}
-use Prim.Native.Nat.{ℕ, _+_, _-_, _*_, _≤_, _<_}
+use mathlib.Core.Path.{_∙_}
+use Prim.Native.Nat.{_-_, _≤_}
 use native.Mathlib.Omega.{arith}
 use denote.Ref.{now}
 use borrow.Author.Needs.{needs}

@@ -1,7 +1,7 @@
 -- `field_unit::whole::read_units` meets its contract: a whole read gives the run of the field's bits (read-closed), and that is what its units joined give.
 -- Assumes nothing.
-use mathlib.Core.Path.{_≡_, sym, ap, _∙_}
-use Prim.Native.Nat.{ℕ, _+_, _/_, _≤_, _<_}
+use mathlib.Core.Path.{sym, ap, _∙_}
+use Prim.Native.Nat.{ℕ, _/_}
 use native.Mathlib.Omega.{arith}
 use denote.Ref.{now}
 use lib.ListN.{length}

@@ -1,7 +1,7 @@
 -- `task::table::Table::check_step` meets its contract: the second list is judged where the first refuses nothing.
 -- Assumes nothing.
 use Rattle.task.proofs.Answers.{call-small}
-use Rattle.task.proofs.Judging.{behind-refused, behind-turn}
+use Rattle.types.proofs.Judging.{behind-refused, behind-turn}
 use borrow.Author.Needs.{needs}
 use Rattle.task.proofs.table.Table.check_step.Statement.{statement}
 use Rattle.task.proofs.table.Table.check_step.Tie as tie
