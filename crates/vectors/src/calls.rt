@@ -1,234 +1,108 @@
-// A job's call, and what it answered.
+// A job's call: what is lent with it, and what is told of it.
+ghost use Prim.Native.Nat.{_≤_};
+ghost use Rattle.io.specs.Counts.{Counts};
+use crate::fields;
 use crate::job;
 use crate::lent::fill;
+use crate::lent::fill_out;
 use crate::lent::tell;
 use crate::lines::byte;
 use crate::lines::half;
-use crate::lines::put_byte;
-use crate::lines::put_word;
-use crate::lines::word;
+use crate::operators;
 use crate::told;
-use buffer_field::FieldRead;
-use field_unit::access::FieldOp;
-use field_unit::next::Accessed;
-use field_unit::next::next_access;
-use field_unit::whole::UnitRead;
-use field_unit::whole::UnitWritten;
-use types::flags::AccessTypeAnswer;
-use types::flags::FieldAccessType;
-use types::flags::FieldFlags;
-use types::flags::FieldUpdateRule;
-use types::flags::UpdateRuleAnswer;
-use types::refusal::number;
-use types::value::type_number;
-use types::value::type_of;
+use crate::values;
 
-// Lends the bytes, makes the call, tells of it and of the bytes after it.
-pub fn answer(line: &[u8; 145], first: &mut [u8], second: &mut [u8], text: &mut [u8; 190]) {
-    let n = io::count(half(line, job::FIRST) as isize, first);
-    let m = io::count(half(line, job::SECOND) as isize, second);
-    let a = &mut first[..n];
-    let b = &mut second[..m];
-    fill(a, half(line, job::FIRST_SEED));
-    fill(b, half(line, job::SECOND_SEED));
-    told::clear(text);
-    make_call(line, a, b, text);
-    tell(text, told::FIRST, a, half(line, job::SHOW));
-    tell(text, told::SECOND, b, half(line, job::SHOW));
+const UNIT: u8 = 1;
+
+const MID: u8 = 25;
+
+// The length in these columns, cut to the bytes there are.
+fn length(line: &[u8; 496], at: usize, bytes: &[u8]) -> usize
+    requires { ⌜ at ≤ 488 ⌝ }
+    ensures { λ r. ⌜ Counts r (now (bytes .entry)) ⌝ }
+{
+    io::count(half(line, at) as isize, bytes)
 }
 
-fn make_call(line: &[u8; 145], first: &mut [u8], second: &mut [u8], text: &mut [u8; 190]) {
+// The operand whose bytes are lent second: the steps of a field unit go over the same region once more.
+fn second_lent(line: &[u8; 496]) -> usize
+    ensures { λ r. ⌜ r ≤ 192 ⌝ }
+{
+    if byte(line, job::OP) == UNIT {
+        job::FIRST
+    } else {
+        job::SECOND
+    }
+}
+
+// Lends the bytes, makes the call, tells of it and of the bytes after it.
+pub fn answer(
+    line: &[u8; 496],
+    first: &mut [u8],
+    second: &mut [u8],
+    third: &mut [u8],
+    out: &mut [u8],
+    text: &mut [u8; 232],
+) {
+    let twice = second_lent(line);
+    let n1 = length(line, job::FIRST + job::COUNT, first);
+    let n2 = length(line, twice + job::COUNT, second);
+    let n3 = length(line, job::THIRD + job::COUNT, third);
+    let n = length(line, job::OUT, out);
+    let a = &mut first[..n1];
+    let b = &mut second[..n2];
+    let c = &mut third[..n3];
+    let o = &mut out[..n];
+    fill(line, job::FIRST, a);
+    fill(line, twice, b);
+    fill(line, job::THIRD, c);
+    fill_out(line, o);
+    told::clear(text);
+    make_call(line, a, b, c, o, text);
+    let from = half(line, job::SHOW);
+    tell(text, told::FIRST, a, from);
+    tell(text, told::SECOND, b, from);
+    tell_out(line, a, b, c, o, text);
+}
+
+fn make_call(
+    line: &[u8; 496],
+    first: &mut [u8],
+    second: &mut [u8],
+    third: &[u8],
+    out: &mut [u8],
+    text: &mut [u8; 232],
+) {
     let op = byte(line, job::OP);
     match op {
-        1 => unit_call(line, first, second, text),
-        2 => one_access(line, first, text),
-        3 => check_and_count(job::op_of(line), word(line, job::MADE), text),
-        4 => field_read(line, first, second, text),
-        5 => field_write(line, first, second, text),
-        6 => field_write_self(line, first, text),
-        7 => flag_parts(FieldFlags::new(byte(line, job::FLAGS)), text),
-        8 => put_word(
-            text,
-            told::VALUE,
-            type_number(type_of(job::value_of(line))) as u64,
-        ),
+        1..=8 => fields::call(op, line, first, second, out, text),
+        9..=15 => values::call(op, line, first, out, text),
+        16 => values::write_value(line, first, second, text),
+        17 => values::write_value_self(line, first, text),
+        18..=25 => operators::call(op, line, first, second, third, text),
+        26..=28 => operators::call_out(op, line, first, second, out, text),
+        29..=31 => values::call(op, line, first, out, text),
         _ => {}
     }
 }
 
-// The check and the count alone, for a region of so many bytes.
-fn check_and_count(op: FieldOp, size: u64, text: &mut [u8; 190]) {
-    let checked = field_unit::check::check_field(op.field, op.write, size);
-    put_byte(text, told::CHECK_STATUS, told::status_of(checked));
-    match field_unit::next::count_accesses(op, size) {
-        UnitWritten::Count(n) => put_word(text, told::COUNTED, n),
-        UnitWritten::Refused(r) => put_byte(text, told::COUNT_STATUS, number(r)),
-    }
-}
-
-// The whole call on the one region, all its accesses one by one on the other.
-fn unit_call(line: &[u8; 145], region: &mut [u8], again: &mut [u8], text: &mut [u8; 190]) {
-    let op = job::op_of(line);
-    check_and_count(op, region.len() as u64, text);
-    whole_call(op, region, text);
-    steps(op, again, text);
-}
-
-fn whole_call(op: FieldOp, region: &mut [u8], text: &mut [u8; 190]) {
-    if op.write {
-        whole_write(op, region, text);
+// Mid's part has the output's columns.
+fn tell_out(
+    line: &[u8; 496],
+    first: &[u8],
+    second: &[u8],
+    third: &[u8],
+    out: &[u8],
+    text: &mut [u8; 232],
+) {
+    if byte(line, job::OP) == MID {
+        tell(
+            text,
+            told::OUT,
+            operators::mid_part(line, first, second, third),
+            0,
+        );
         return;
     }
-    whole_read(op, region, text);
-}
-
-fn whole_read(op: FieldOp, region: &[u8], text: &mut [u8; 190]) {
-    match field_unit::whole::read_field(region, op.field) {
-        UnitRead::Value { value, count } => told::result(1, value, count, text),
-        UnitRead::Refused(r) => told::refused(r, text),
-    }
-}
-
-fn whole_write(op: FieldOp, region: &mut [u8], text: &mut [u8; 190]) {
-    match field_unit::whole::write_field(region, op.field, op.value) {
-        UnitWritten::Count(n) => told::result(0, 0, n, text),
-        UnitWritten::Refused(r) => told::refused(r, text),
-    }
-}
-
-// Where an operation stands after some of its accesses: how many were made, what is held, the refusal's number, and
-// whether no more is to be asked.
-struct Progress {
-    made: u64,
-    held: u64,
-    status: u8,
-    over: bool,
-}
-
-fn step(op: FieldOp, s: Progress, region: &mut [u8]) -> Progress {
-    if s.over {
-        return s;
-    }
-    match next_access(op, s.made, s.held, region) {
-        Accessed::Held(held) => Progress {
-            made: std::num::wrapping_add_u64(s.made, 1),
-            held,
-            status: 0,
-            over: false,
-        },
-        Accessed::Over => Progress {
-            made: s.made,
-            held: s.held,
-            status: 0,
-            over: true,
-        },
-        Accessed::Refused(r) => Progress {
-            made: s.made,
-            held: s.held,
-            status: number(r),
-            over: true,
-        },
-    }
-}
-
-// All accesses, at most twenty.
-fn steps(op: FieldOp, region: &mut [u8], text: &mut [u8; 190]) {
-    let mut s = Progress {
-        made: 0,
-        held: 0,
-        status: 0,
-        over: false,
-    };
-    let mut left: u64 = 20;
-    while 0 < left {
-        s = step(op, s, region);
-        left -= 1;
-    }
-    put_byte(text, told::STEP_STATUS, s.status);
-    put_word(text, told::HELD, s.held);
-    put_word(text, told::STEPS, s.made);
-}
-
-fn one_access(line: &[u8; 145], region: &mut [u8], text: &mut [u8; 190]) {
-    match next_access(
-        job::op_of(line),
-        word(line, job::MADE),
-        word(line, job::HELD),
-        region,
-    ) {
-        Accessed::Held(held) => told::result(3, held, 0, text),
-        Accessed::Over => told::result(4, 0, 0, text),
-        Accessed::Refused(r) => told::refused(r, text),
-    }
-}
-
-fn field_read(line: &[u8; 145], buffer: &[u8], out: &mut [u8], text: &mut [u8; 190]) {
-    match buffer_field::read_buffer_field(
-        buffer,
-        word(line, job::OFFSET),
-        word(line, job::LENGTH),
-        out,
-    ) {
-        FieldRead::Integer(x) => told::result(1, x, 0, text),
-        FieldRead::Buffer(n) => told::result(2, 0, n as u64, text),
-        FieldRead::Refused(r) => told::refused(r, text),
-    }
-}
-
-fn field_write(line: &[u8; 145], buffer: &mut [u8], bytes: &[u8], text: &mut [u8; 190]) {
-    let value = job::value_of(line);
-    told::outcome(
-        buffer_field::write_buffer_field(
-            buffer,
-            word(line, job::OFFSET),
-            word(line, job::LENGTH),
-            value,
-            bytes,
-        ),
-        text,
-    );
-}
-
-fn field_write_self(line: &[u8; 145], buffer: &mut [u8], text: &mut [u8; 190]) {
-    told::outcome(
-        buffer_field::write_buffer_field_self(
-            buffer,
-            word(line, job::OFFSET),
-            word(line, job::LENGTH),
-        ),
-        text,
-    );
-}
-
-fn access_number(t: FieldAccessType) -> u64 {
-    match t {
-        FieldAccessType::Any => 0,
-        FieldAccessType::Byte => 1,
-        FieldAccessType::Word => 2,
-        FieldAccessType::DWord => 3,
-        FieldAccessType::QWord => 4,
-        FieldAccessType::Buffer => 5,
-    }
-}
-
-fn rule_number(r: FieldUpdateRule) -> u64 {
-    match r {
-        FieldUpdateRule::Preserve => 0,
-        FieldUpdateRule::WriteAsOnes => 1,
-        FieldUpdateRule::WriteAsZeros => 2,
-    }
-}
-
-// Access type and width, update rule, lock rule, each by itself.
-fn flag_parts(flags: FieldFlags, text: &mut [u8; 190]) {
-    match flags.access_type() {
-        AccessTypeAnswer::Is(t) => put_word(text, told::VALUE, access_number(t)),
-        AccessTypeAnswer::Refused(r) => told::refused(r, text),
-    }
-    match flags.field_update_rule() {
-        UpdateRuleAnswer::Is(r) => put_word(text, told::HELD, rule_number(r)),
-        UpdateRuleAnswer::Refused(r) => put_byte(text, told::STEP_STATUS, number(r)),
-    }
-    put_word(text, told::COUNT, flags.access_width());
-    put_word(text, told::STEPS, if flags.lock_rule() { 1 } else { 0 });
+    tell(text, told::OUT, out, half(line, job::SHOW));
 }

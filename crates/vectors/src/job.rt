@@ -1,41 +1,52 @@
 // The columns of a job, and what they say.
+ghost use Prim.Native.Nat.{_≤_};
 use crate::lines::byte;
 use crate::lines::word;
 use field_unit::access::FieldOp;
 use types::flags::FieldFlags;
+use types::value::AmlType;
 use types::value::AmlValue;
 use types::value::FieldUnit;
 use types::value::RegionSpace;
 
 pub const OP: usize = 0; // which call
 
-pub const FLAGS: usize = 3; // the field's flags, space, offset and length; the last two also a buffer field's
+pub const WRITES: usize = 3; // 1 for a write
 
-pub const SPACE: usize = 6;
+pub const HELD: usize = 6; // for one access alone: what is held, and how many were made
 
-pub const WRITES: usize = 9; // 1 for a write
+pub const MADE: usize = 23; // for a check alone: the region's length; for a named type: its number
 
-pub const KIND: usize = 12; // the written value's kind
+pub const SHOW: usize = 40; // where the shown bytes begin
 
-pub const OFFSET: usize = 15;
+pub const FIRST: usize = 49; // the three operands
 
-pub const LENGTH: usize = 32;
+pub const SECOND: usize = 192;
 
-pub const VALUE: usize = 49; // the written value's number
+pub const THIRD: usize = 335;
 
-pub const HELD: usize = 66; // for one access alone: what is held, and how many were made
+pub const OUT: usize = 478; // the output: its length and seed
 
-pub const MADE: usize = 83; // for a check alone: the region's length
+pub const OUT_SEED: usize = 487;
 
-pub const FIRST: usize = 100; // the first lent bytes: their length and seed
+// The columns of an operand, each so many places behind its first.
+const KIND: usize = 0;
 
-pub const FIRST_SEED: usize = 109;
+const FLAGS: usize = 3;
 
-pub const SECOND: usize = 118; // the second lent bytes
+const SPACE: usize = 6;
 
-pub const SECOND_SEED: usize = 127;
+const OFFSET: usize = 9;
 
-pub const SHOW: usize = 136; // where the shown bytes begin
+const LENGTH: usize = 26;
+
+const VALUE: usize = 43;
+
+pub const COUNT: usize = 60; // the bytes lent beside the value: their length, seed and head
+
+pub const SEED: usize = 69;
+
+pub const HEAD: usize = 78;
 
 fn space_of(n: u8) -> RegionSpace {
     match n {
@@ -53,36 +64,59 @@ fn space_of(n: u8) -> RegionSpace {
     }
 }
 
-pub fn field_of(line: &[u8; 145]) -> FieldUnit {
+pub fn offset_of(line: &[u8; 496], at: usize) -> u64
+    requires { ⌜ at ≤ 335 ⌝ }
+{
+    word(line, at + OFFSET)
+}
+
+pub fn length_of(line: &[u8; 496], at: usize) -> u64
+    requires { ⌜ at ≤ 335 ⌝ }
+{
+    word(line, at + LENGTH)
+}
+
+pub fn flags_of(line: &[u8; 496], at: usize) -> FieldFlags
+    requires { ⌜ at ≤ 335 ⌝ }
+{
+    FieldFlags::new(byte(line, at + FLAGS))
+}
+
+pub fn field_of(line: &[u8; 496], at: usize) -> FieldUnit
+    requires { ⌜ at ≤ 335 ⌝ }
+{
     FieldUnit {
-        space: space_of(byte(line, SPACE)),
-        flags: FieldFlags::new(byte(line, FLAGS)),
-        offset: word(line, OFFSET),
-        length: word(line, LENGTH),
+        space: space_of(byte(line, at + SPACE)),
+        flags: flags_of(line, at),
+        offset: offset_of(line, at),
+        length: length_of(line, at),
     }
 }
 
-pub fn op_of(line: &[u8; 145]) -> FieldOp {
+// The field of the first operand, written with the number of the second.
+pub fn op_of(line: &[u8; 496]) -> FieldOp {
     FieldOp {
         write: byte(line, WRITES) != 0,
-        field: field_of(line),
-        value: word(line, VALUE),
+        field: field_of(line, FIRST),
+        value: word(line, SECOND + VALUE),
     }
 }
 
-pub fn value_of(line: &[u8; 145]) -> AmlValue {
-    let kind = byte(line, KIND);
-    let x = word(line, VALUE);
+pub fn value_of(line: &[u8; 496], at: usize) -> AmlValue
+    requires { ⌜ at ≤ 335 ⌝ }
+{
+    let kind = byte(line, at + KIND);
+    let x = word(line, at + VALUE);
     match kind {
         0 => AmlValue::Boolean(x != 0),
         1 => AmlValue::Integer(x),
         2 => AmlValue::String,
         3 => AmlValue::Buffer,
         4 => AmlValue::BufferField {
-            offset: word(line, OFFSET),
-            length: word(line, LENGTH),
+            offset: offset_of(line, at),
+            length: length_of(line, at),
         },
-        5 => AmlValue::Field(field_of(line)),
+        5 => AmlValue::Field(field_of(line, at)),
         6 => AmlValue::OpRegion,
         7 => AmlValue::Device,
         8 => AmlValue::Method,
@@ -91,5 +125,25 @@ pub fn value_of(line: &[u8; 145]) -> AmlValue {
         11 => AmlValue::Package,
         12 => AmlValue::PowerResource,
         _ => AmlValue::ThermalZone,
+    }
+}
+
+// The type whose number stands in `made`.
+pub fn type_named(line: &[u8; 496]) -> AmlType {
+    let n = word(line, MADE);
+    match n {
+        1 => AmlType::Integer,
+        2 => AmlType::String,
+        3 => AmlType::Buffer,
+        4 => AmlType::Package,
+        5 => AmlType::FieldUnit,
+        6 => AmlType::Device,
+        8 => AmlType::Method,
+        9 => AmlType::Mutex,
+        10 => AmlType::OpRegion,
+        11 => AmlType::PowerResource,
+        12 => AmlType::Processor,
+        13 => AmlType::ThermalZone,
+        _ => AmlType::BufferField,
     }
 }

@@ -30,8 +30,8 @@ fn digit(c: u8) -> u64 {
 }
 
 // The number in so many columns of a job.
-fn number(line: &[u8; 145], at: usize, digits: usize) -> u64
-    requires { ⌜ at + digits ≤ 145 ⌝ }
+fn number(line: &[u8; 496], at: usize, digits: usize) -> u64
+    requires { ⌜ at + digits ≤ 496 ⌝ }
 {
     let mut x: u64 = 0;
     let mut i = 0;
@@ -42,27 +42,27 @@ fn number(line: &[u8; 145], at: usize, digits: usize) -> u64
     x
 }
 
-pub fn byte(line: &[u8; 145], at: usize) -> u8
-    requires { ⌜ at ≤ 143 ⌝ }
+pub fn byte(line: &[u8; 496], at: usize) -> u8
+    requires { ⌜ at ≤ 494 ⌝ }
 {
     (number(line, at, 2) % 256) as u8
 }
 
-pub fn half(line: &[u8; 145], at: usize) -> u32
-    requires { ⌜ at ≤ 137 ⌝ }
+pub fn half(line: &[u8; 496], at: usize) -> u32
+    requires { ⌜ at ≤ 488 ⌝ }
 {
     (number(line, at, 8) % 4294967296) as u32
 }
 
-pub fn word(line: &[u8; 145], at: usize) -> u64
-    requires { ⌜ at ≤ 129 ⌝ }
+pub fn word(line: &[u8; 496], at: usize) -> u64
+    requires { ⌜ at ≤ 480 ⌝ }
 {
     number(line, at, 16)
 }
 
 // The number's lowest digits into so many columns of an answer.
-fn put(text: &mut [u8; 190], at: usize, digits: usize, x: u64)
-    requires { ⌜ at + digits ≤ 190 ⌝ }
+fn put(text: &mut [u8; 232], at: usize, digits: usize, x: u64)
+    requires { ⌜ at + digits ≤ 232 ⌝ }
 {
     let mut rest = x;
     let mut i = digits;
@@ -74,20 +74,20 @@ fn put(text: &mut [u8; 190], at: usize, digits: usize, x: u64)
     }
 }
 
-pub fn put_byte(text: &mut [u8; 190], at: usize, x: u8)
-    requires { ⌜ at ≤ 188 ⌝ }
+pub fn put_byte(text: &mut [u8; 232], at: usize, x: u8)
+    requires { ⌜ at ≤ 230 ⌝ }
 {
     put(text, at, 2, x as u64);
 }
 
-pub fn put_half(text: &mut [u8; 190], at: usize, x: u32)
-    requires { ⌜ at ≤ 182 ⌝ }
+pub fn put_half(text: &mut [u8; 232], at: usize, x: u32)
+    requires { ⌜ at ≤ 224 ⌝ }
 {
     put(text, at, 8, x as u64);
 }
 
-pub fn put_word(text: &mut [u8; 190], at: usize, x: u64)
-    requires { ⌜ at ≤ 174 ⌝ }
+pub fn put_word(text: &mut [u8; 232], at: usize, x: u64)
+    requires { ⌜ at ≤ 216 ⌝ }
 {
     put(text, at, 16, x);
 }

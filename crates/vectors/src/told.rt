@@ -14,21 +14,21 @@ pub const PRESENT: usize = 3; // the types that it carries
 
 pub const WANTED: usize = 6;
 
-pub const RESULT: usize = 9; // 1 Integer, 2 Buffer, 3 held, 4 no access left
+pub const RESULT: usize = 9; // 1 Integer, 2 Buffer, 3 held, 4 no access left, 5 String, 6 bool, 7 status, 8 the value itself, 9 order, 10 part
 
 pub const VALUE: usize = 12;
 
-pub const COUNT: usize = 29; // of accesses, or of a Buffer's bytes
+pub const COUNT: usize = 29; // of accesses, or of the result's bytes
 
-pub const FIRST: usize = 46; // the first lent bytes after the call
+pub const FIRST: usize = 46; // the bytes lent beside the first and the second operand, after the call
 
-pub const STEP_STATUS: usize = 88;
+pub const SECOND: usize = 88;
 
-pub const HELD: usize = 91;
+pub const STEP_STATUS: usize = 130;
 
-pub const STEPS: usize = 108;
+pub const HELD: usize = 133;
 
-pub const SECOND: usize = 125; // the second lent bytes after the call
+pub const STEPS: usize = 150;
 
 pub const CHECK_STATUS: usize = 167;
 
@@ -36,8 +36,10 @@ pub const COUNT_STATUS: usize = 170;
 
 pub const COUNTED: usize = 173;
 
+pub const OUT: usize = 190; // the output after the call
+
 // Every column 0, but those of the lent bytes.
-pub fn clear(text: &mut [u8; 190]) {
+pub fn clear(text: &mut [u8; 232]) {
     put_byte(text, STATUS, 0);
     put_byte(text, PRESENT, 0);
     put_byte(text, WANTED, 0);
@@ -50,7 +52,7 @@ pub fn clear(text: &mut [u8; 190]) {
     put_byte(text, CHECK_STATUS, 0);
     put_byte(text, COUNT_STATUS, 0);
     put_word(text, COUNTED, 0);
-    text[189] = b'\n';
+    text[231] = b'\n';
 }
 
 pub fn status_of(o: Outcome) -> u8 {
@@ -61,7 +63,7 @@ pub fn status_of(o: Outcome) -> u8 {
 }
 
 // The number, and the types that it carries.
-pub fn refused(r: Refusal, text: &mut [u8; 190]) {
+pub fn refused(r: Refusal, text: &mut [u8; 232]) {
     put_byte(text, STATUS, number(r));
     match types_of(r) {
         Types::Nothing => {}
@@ -73,13 +75,13 @@ pub fn refused(r: Refusal, text: &mut [u8; 190]) {
     }
 }
 
-pub fn outcome(o: Outcome, text: &mut [u8; 190]) {
+pub fn outcome(o: Outcome, text: &mut [u8; 232]) {
     if let Outcome::Refused(r) = o {
         refused(r, text);
     }
 }
 
-pub fn result(kind: u8, value: u64, count: u64, text: &mut [u8; 190]) {
+pub fn result(kind: u8, value: u64, count: u64, text: &mut [u8; 232]) {
     put_byte(text, RESULT, kind);
     put_word(text, VALUE, value);
     put_word(text, COUNT, count);

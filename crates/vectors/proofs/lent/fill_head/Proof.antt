@@ -1,28 +1,25 @@
--- `vectors::lent::fill` is safe and ends: what is left of the bytes falls. Assumes nothing.
+-- `vectors::lent::fill_head` is safe and ends: what is left of the bytes falls. Assumes nothing.
 use Prim.Native.Nat.{_≤_, _-_}
 use mathlib.Core.Path.{_≡_}
 use borrow.Author.Needs.{needs}
 use lib.ListN.{length}
-use Rattle.vectors.proofs.lent.fill.Statement.{statement}
-use Rattle.vectors.proofs.lent.fill.Tie as tie
+use Rattle.vectors.proofs.lent.fill_head.Statement.{statement}
+use Rattle.vectors.proofs.lent.fill_head.Tie as tie
 
 abbrev Inv-loop : tie.InvT-loop
-Inv-loop bytes₀ seed x₀ i₀ bytes x i = (i ≤ length bytes₀) × (length bytes ≡ length bytes₀)
+Inv-loop line head bytes₀ i₀ bytes i = (i ≤ length bytes₀) × (length bytes ≡ length bytes₀)
 
 abbrev μ-loop : tie.MeasureT-loop
-μ-loop bytes₀ seed x₀ i₀ bytes x i = length bytes₀ - i
+μ-loop line head bytes₀ i₀ bytes i = length bytes₀ - i
 
 loop-holds : tie.Need-loop-holds Inv-loop μ-loop
 loop-holds c = search needs
 
-shade-requires : tie.Need-shade-requires Inv-loop μ-loop
-shade-requires c κs = search needs
+head-byte-requires : tie.Need-head-byte-requires Inv-loop μ-loop
+head-byte-requires c κs = search needs
 
 slice-write-bytes : tie.Need-slice-write-bytes Inv-loop μ-loop
 slice-write-bytes c = search needs
-
-after-requires : tie.Need-after-requires Inv-loop μ-loop
-after-requires c κs = search needs
 
 add-i : tie.Need-add-i Inv-loop μ-loop
 add-i c = search needs
@@ -39,16 +36,15 @@ same-length c = search needs
 returns : tie.Need-returns Inv-loop μ-loop
 returns c = search needs
 
-pub fill-spec : {M : Type 1} → statement M
-fill-spec =
+pub fill-head-spec : {M : Type 1} → statement M
+fill-head-spec =
     tie.close
     (tie.spec
     Inv-loop
     μ-loop
     loop-holds
-    shade-requires
+    head-byte-requires
     slice-write-bytes
-    after-requires
     add-i
     loop-less
     loop-again

@@ -1,9 +1,9 @@
--- `vectors::calls::steps` is safe and ends: `left` falls, and no step changes the region's length. Assumes nothing.
+-- `vectors::fields::steps` is safe and ends: `left` falls, and no step changes the region's length. Assumes nothing.
 use mathlib.Core.Path.{_≡_}
 use borrow.Author.Needs.{needs}
 use lib.ListN.{length}
-use Rattle.vectors.proofs.calls.steps.Statement.{statement}
-use Rattle.vectors.proofs.calls.steps.Tie as tie
+use Rattle.vectors.proofs.fields.steps.Statement.{statement}
+use Rattle.vectors.proofs.fields.steps.Tie as tie
 
 abbrev Inv-loop : tie.InvT-loop
 Inv-loop op region₀ text s₀ left₀ region s left = length region ≡ length region₀
