@@ -1,0 +1,4 @@
+pub mod Operands
+pub mod Ops
+pub mod Runs
+pub mod Steps
