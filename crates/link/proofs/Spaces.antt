@@ -1,6 +1,6 @@
 -- A number that is none of 0 to 9 is 10 or more: one after the other.
 -- Assumes nothing.
-use mathlib.Core.List.{List, [], _∷_}
+use mathlib.Core.List.{[], _∷_}
 use Prim.Native.Nat.{ℕ, suc, _≤_}
 use native.Mathlib.Omega.{arith}
 use types.Run.{OneOf}

@@ -27,3 +27,17 @@ spaceOf n = getD spaces n (S.OemDefined n)
 
 abbrev pub fieldOf : ℕ → ℕ → ℕ → ℕ → FieldUnit
 fieldOf space flags offset size = record { space = spaceOf space; flags = record { 0 = flags }; offset = offset; length = size }
+
+-- a space's number again
+abbrev pub spaceNumber : RegionSpace → ℕ
+spaceNumber S.SystemMemory = 0
+spaceNumber S.SystemIo = 1
+spaceNumber S.PciConfig = 2
+spaceNumber S.EmbeddedControl = 3
+spaceNumber S.SMBus = 4
+spaceNumber S.SystemCmos = 5
+spaceNumber S.PciBarTarget = 6
+spaceNumber S.IPMI = 7
+spaceNumber S.GeneralPurposeIo = 8
+spaceNumber S.GenericSerialBus = 9
+spaceNumber (S.OemDefined n) = n

@@ -2,14 +2,21 @@
 ghost use mathlib.Core.Path.{_≡_};
 ghost use mathlib.Core.List.{[]};
 ghost use Rattle.types.specs.declared.value.AmlValue.the-variants as Val;
-ghost use Rattle.buffer_field.specs.BufferFields.{read, write};
-ghost use Rattle.link.specs.Answers.{readAnswer, outcomeAnswer};
+ghost use Rattle.buffer_field.specs.BufferFields.{read, write, writeSelf};
+ghost use Rattle.link.specs.Answers.{readAnswer, outcomeAnswer, noSuchKind};
+ghost use Rattle.link.specs.Values.{withValue};
 use crate::answer::Answer;
+use crate::answer::no_such_kind;
 use crate::answer::outcome_answer;
 use crate::answer::read_answer;
+use crate::given::HostValue;
+use crate::given::is_kind;
+use crate::given::value_of;
 use buffer_field::read_buffer_field;
+use buffer_field::write_buffer_field;
 use buffer_field::write_buffer_field_bytes;
 use buffer_field::write_buffer_field_integer;
+use buffer_field::write_buffer_field_self;
 
 // Reads a field. One of more than 64 bits goes to the front of out.
 #[no_mangle]
@@ -48,4 +55,30 @@ pub extern "C" fn aml_write_buffer_bytes(
     ensures { λ a. ⌜ (a ≡ outcomeAnswer (write (now (buffer .entry)) offset length Val.Buffer (now (bytes .entry)) .answer)) × (now (buffer .exit) ≡ write (now (buffer .entry)) offset length Val.Buffer (now (bytes .entry)) .buffer) ⌝ }
 {
     outcome_answer(write_buffer_field_bytes(buffer, offset, length, bytes))
+}
+
+// Writes any value; a Buffer's bytes are lent beside it.
+#[no_mangle]
+pub extern "C" fn aml_write_buffer_field(
+    buffer: &mut [u8],
+    offset: u64,
+    length: u64,
+    given: HostValue,
+    bytes: &[u8],
+) -> Answer
+    ensures { λ a. ⌜ (a ≡ withValue given (λ v. outcomeAnswer (write (now (buffer .entry)) offset length v (now (bytes .entry)) .answer)) noSuchKind) × (now (buffer .exit) ≡ withValue given (λ v. write (now (buffer .entry)) offset length v (now (bytes .entry)) .buffer) (now (buffer .entry))) ⌝ }
+{
+    if !is_kind(given.kind) {
+        return no_such_kind();
+    }
+    let v = value_of(given);
+    outcome_answer(write_buffer_field(buffer, offset, length, v, bytes))
+}
+
+// Writes the buffer itself, as it was before, into a field of it.
+#[no_mangle]
+pub extern "C" fn aml_write_buffer_field_self(buffer: &mut [u8], offset: u64, length: u64) -> Answer
+    ensures { λ a. ⌜ (a ≡ outcomeAnswer (writeSelf (now (buffer .entry)) offset length .answer)) × (now (buffer .exit) ≡ writeSelf (now (buffer .entry)) offset length .buffer) ⌝ }
+{
+    outcome_answer(write_buffer_field_self(buffer, offset, length))
 }

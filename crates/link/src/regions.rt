@@ -3,45 +3,22 @@ ghost use mathlib.Core.Path.{_≡_};
 ghost use Prim.Native.Nat.{_*_, min};
 ghost use Rattle.bits.specs.Bits.{getBits, setBits};
 ghost use Rattle.field_unit.specs.Calls.{readField, writeField};
-ghost use Rattle.link.specs.Answers.{unitReadAnswer, unitWrittenAnswer};
-ghost use Rattle.link.specs.Fields.{spaceOf, fieldOf};
+ghost use Rattle.link.specs.Answers.{unitReadAnswer, unitWrittenAnswer, noSuchKind};
+ghost use Rattle.link.specs.Fields.{fieldOf};
+ghost use Rattle.link.specs.Values.{withValue};
+ghost use Rattle.value.specs.FieldWrites.{writeValue};
 use crate::answer::Answer;
+use crate::answer::no_such_kind;
 use crate::answer::unit_read_answer;
 use crate::answer::unit_written_answer;
+use crate::given::HostValue;
+use crate::given::field_of;
+use crate::given::is_kind;
+use crate::given::value_of;
 use field_unit::whole::read_field;
 use field_unit::whole::write_field;
-use types::flags::FieldFlags;
-use types::value::FieldUnit;
-use types::value::RegionSpace;
-
-fn space_of(number: u8) -> RegionSpace
-    ensures { λ r. ⌜ r ≡ spaceOf number ⌝ }
-{
-    match number {
-        0 => RegionSpace::SystemMemory,
-        1 => RegionSpace::SystemIo,
-        2 => RegionSpace::PciConfig,
-        3 => RegionSpace::EmbeddedControl,
-        4 => RegionSpace::SMBus,
-        5 => RegionSpace::SystemCmos,
-        6 => RegionSpace::PciBarTarget,
-        7 => RegionSpace::IPMI,
-        8 => RegionSpace::GeneralPurposeIo,
-        9 => RegionSpace::GenericSerialBus,
-        _ => RegionSpace::OemDefined(number),
-    }
-}
-
-fn field_of(space: u8, flags: u8, offset: u64, length: u64) -> FieldUnit
-    ensures { λ r. ⌜ r ≡ fieldOf space flags offset length ⌝ }
-{
-    FieldUnit {
-        space: space_of(space),
-        flags: FieldFlags(flags),
-        offset,
-        length,
-    }
-}
+use value::field::write_value;
+use value::field::write_value_self;
 
 // Reads a field unit.
 #[no_mangle]
@@ -70,6 +47,45 @@ pub extern "C" fn aml_write_field(
     ensures { λ a. ⌜ (a ≡ unitWrittenAnswer (writeField (now (region .entry)) (fieldOf space flags offset length) value .answer)) × (now (region .exit) ≡ writeField (now (region .entry)) (fieldOf space flags offset length) value .region) ⌝ }
 {
     unit_written_answer(write_field(region, field_of(space, flags, offset, length), value))
+}
+
+// Writes any value that converts to integer into a field unit; its bytes are lent beside it.
+#[no_mangle]
+pub extern "C" fn aml_write_value(
+    region: &mut [u8],
+    space: u8,
+    flags: u8,
+    offset: u64,
+    length: u64,
+    given: HostValue,
+    bytes: &[u8],
+) -> Answer
+    ensures { λ a. ⌜ (a ≡ withValue given (λ v. unitWrittenAnswer (writeValue (now (region .entry)) (fieldOf space flags offset length) v (now (bytes .entry)) .answer)) noSuchKind) × (now (region .exit) ≡ withValue given (λ v. writeValue (now (region .entry)) (fieldOf space flags offset length) v (now (bytes .entry)) .region) (now (region .entry))) ⌝ }
+{
+    if !is_kind(given.kind) {
+        return no_such_kind();
+    }
+    let v = value_of(given);
+    unit_written_answer(write_value(region, field_of(space, flags, offset, length), v, bytes))
+}
+
+// The same of a value whose bytes are the region itself.
+#[no_mangle]
+pub extern "C" fn aml_write_value_self(
+    region: &mut [u8],
+    space: u8,
+    flags: u8,
+    offset: u64,
+    length: u64,
+    given: HostValue,
+) -> Answer
+    ensures { λ a. ⌜ (a ≡ withValue given (λ v. unitWrittenAnswer (writeValue (now (region .entry)) (fieldOf space flags offset length) v (now (region .entry)) .answer)) noSuchKind) × (now (region .exit) ≡ withValue given (λ v. writeValue (now (region .entry)) (fieldOf space flags offset length) v (now (region .entry)) .region) (now (region .entry))) ⌝ }
+{
+    if !is_kind(given.kind) {
+        return no_such_kind();
+    }
+    let v = value_of(given);
+    unit_written_answer(write_value_self(region, field_of(space, flags, offset, length), v))
 }
 
 // Loads bytes of the region as one number, lowest first: 1, 2, 4 or 8 of them by one access of the machine; more than 8 count as 8, those past the end as 0.

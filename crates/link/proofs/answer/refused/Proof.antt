@@ -1,6 +1,6 @@
 -- `link::answer::refused` meets its contract: each arm tells which types the refusal carries.
 -- Assumes nothing.
-use mathlib.Core.Path.{_≡_, refl, _∙_}
+use mathlib.Core.Path.{_≡_}
 use Rattle.link.proofs.Numbers.{refused-by}
 use borrow.Author.Needs.{needs}
 use Rattle.link.proofs.answer.refused.Statement.{statement}

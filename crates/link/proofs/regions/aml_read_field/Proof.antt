@@ -1,12 +1,10 @@
 -- `link::regions::aml_read_field` meets its contract: the numbers of what `read_field` answers.
 -- Assumes nothing.
-use mathlib.Core.Path.{_≡_, sym, ap, _∙_}
-use Prim.Native.Nat.{ℕ, _≤_}
+use mathlib.Core.Path.{_≡_, ap, _∙_}
 use denote.Ref.{now}
 use Rattle.types.specs.declared.value.FieldUnit.{FieldUnit}
 use Rattle.field_unit.specs.Calls.{readField}
-use Rattle.field_unit.specs.declared.whole.UnitRead.{UnitRead}
-use Rattle.link.specs.Answers.{unitReadAnswer, readCount}
+use Rattle.link.specs.Answers.{unitReadAnswer}
 use Rattle.link.proofs.Counts.{read-most}
 use borrow.Author.Needs.{needs}
 use Rattle.link.proofs.regions.aml_read_field.Statement.{statement}

@@ -1,11 +1,10 @@
 -- `link::regions::aml_write_field` meets its contract: the numbers of what `write_field` answers, and its region.
 -- Assumes nothing.
-use mathlib.Core.Path.{_≡_, sym, ap, _∙_}
-use Prim.Native.Nat.{ℕ, _≤_}
+use mathlib.Core.Path.{_≡_, ap, _∙_}
 use denote.Ref.{now}
 use Rattle.types.specs.declared.value.FieldUnit.{FieldUnit}
 use Rattle.field_unit.specs.Calls.{Wrote, writeField}
-use Rattle.link.specs.Answers.{unitWrittenAnswer, writtenCount}
+use Rattle.link.specs.Answers.{unitWrittenAnswer}
 use Rattle.link.proofs.Counts.{write-most}
 use borrow.Author.Needs.{needs}
 use Rattle.link.proofs.regions.aml_write_field.Statement.{statement}

@@ -1,0 +1,32 @@
+-- `link::answer::integer_answer` meets its contract: each arm tells which case the answer is.
+-- Assumes nothing.
+use mathlib.Core.Path.{_≡_, sym, ap, _∙_}
+use Rattle.link.specs.Answers.{integerAnswer}
+use borrow.Author.Needs.{needs}
+use Rattle.link.proofs.answer.integer_answer.Statement.{statement}
+use Rattle.link.proofs.answer.integer_answer.Tie as tie
+
+enum-known-r : tie.Need-enum-known-r
+enum-known-r c = search needs
+
+accepted-requires : tie.Need-accepted-requires
+accepted-requires c κs = search needs
+
+enum-known-r-2 : tie.Need-enum-known-r-2
+enum-known-r-2 c = search needs
+
+refused-requires : tie.Need-refused-requires
+refused-requires c κs = search needs
+
+returns : tie.Need-returns
+unfolding integerAnswer
+returns c = c .accepted .ensures ∙ sym (ap integerAnswer (c .before .before .r .given .1))
+
+returns-2 : tie.Need-returns-2
+unfolding integerAnswer
+returns-2 c = c .refused .ensures ∙ sym (ap integerAnswer (c .before .before .r2 .given .1))
+
+pub integer-answer-spec : {M : Type 1} → statement M
+integer-answer-spec =
+    tie.close
+    (tie.spec enum-known-r accepted-requires enum-known-r-2 refused-requires returns returns-2)
