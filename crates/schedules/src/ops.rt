@@ -62,7 +62,7 @@ fn operation(write: bool, flags: FieldFlags, offset: u64, length: u64, value: u6
 }
 
 // On bytes: one of the six above, 32 bits further for each task where they are apart.
-pub fn on_bytes(kind: usize, task: usize, apart: bool, lock: bool) -> FieldOp
+pub(crate) fn on_bytes(kind: usize, task: usize, apart: bool, lock: bool) -> FieldOp
     requires { ⌜ (kind < 6) × (task < 3) ⌝ }
 {
     let at = wide(OFFSETS[kind]);
@@ -80,7 +80,7 @@ pub fn on_bytes(kind: usize, task: usize, apart: bool, lock: bool) -> FieldOp
 }
 
 // On two bits of byte 0, others for each task: a read, a write under Preserve, a write as ones.
-pub fn on_one_byte(kind: usize, task: usize, lock: bool) -> FieldOp
+pub(crate) fn on_one_byte(kind: usize, task: usize, lock: bool) -> FieldOp
     requires { ⌜ (kind < 3) × (task < 3) ⌝ }
 {
     if kind == 2 {
@@ -119,7 +119,7 @@ fn carries_lock(op: FieldOp) -> bool {
 }
 
 // "any two operations under way together that touch a common byte, one of them writing, both carry the lock rule"
-pub fn may_be_together(a: FieldOp, b: FieldOp) -> bool {
+pub(crate) fn may_be_together(a: FieldOp, b: FieldOp) -> bool {
     if !a.write {
         if !b.write {
             return true;

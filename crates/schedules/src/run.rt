@@ -28,7 +28,7 @@ pub struct Run {
     pub waits: u64,
 }
 
-pub fn opening(table: Table) -> Run {
+pub(crate) fn opening(table: Table) -> Run {
     Run {
         table,
         stage: [0; 3],
@@ -131,7 +131,7 @@ fn call(run: Run, ops: Ops, region: &mut [u8], task: usize) -> Run
 }
 
 // The calls that the word's digits say, lowest first.
-pub fn follow(run: Run, ops: Ops, region: &mut [u8], word: u64, length: usize) -> Run {
+pub(crate) fn follow(run: Run, ops: Ops, region: &mut [u8], word: u64, length: usize) -> Run {
     let mut now = run;
     let mut rest = word;
     for _ in 0..length {
@@ -149,7 +149,7 @@ fn round(run: Run, ops: Ops, region: &mut [u8]) -> Run {
 }
 
 // As many rounds as there can be calls left.
-pub fn run_out(run: Run, ops: Ops, region: &mut [u8], length: usize) -> Run {
+pub(crate) fn run_out(run: Run, ops: Ops, region: &mut [u8], length: usize) -> Run {
     let mut now = run;
     for _ in 0..length {
         now = round(now, ops, region);
@@ -189,7 +189,7 @@ fn again_one(run: Run, ops: Ops, region: &mut [u8], k: usize) -> bool
 }
 
 // The ended operations run whole, in the order in which they finished. Answers whether each gives what it gave in the run.
-pub fn again(run: Run, ops: Ops, region: &mut [u8]) -> bool {
+pub(crate) fn again(run: Run, ops: Ops, region: &mut [u8]) -> bool {
     for k in 0..3 {
         if !again_one(run, ops, region, k) {
             return false;

@@ -37,7 +37,7 @@ pub struct Counts {
     pub left: u64,
 }
 
-pub fn none() -> Counts {
+pub(crate) fn none() -> Counts {
     Counts {
         run: 0,
         met: 0,
@@ -49,7 +49,7 @@ pub fn none() -> Counts {
     }
 }
 
-pub fn sum(a: Counts, b: Counts) -> Counts {
+pub(crate) fn sum(a: Counts, b: Counts) -> Counts {
     Counts {
         run: wrapping_add_u64(a.run, b.run),
         met: wrapping_add_u64(a.met, b.met),
@@ -176,7 +176,7 @@ fn word_count(length: usize) -> u64
 }
 
 // All schedules of these operations.
-pub fn all(ops: Ops) -> Counts {
+pub(crate) fn all(ops: Ops) -> Counts {
     let length = calls(ops);
     let mut counts = none();
     if 12 < length {

@@ -36,7 +36,7 @@ fn second_lent(line: &[u8; 496]) -> usize
 }
 
 // Lends the bytes, makes the call, tells of it and of the bytes after it.
-pub fn answer(
+pub(crate) fn answer(
     line: &[u8; 496],
     first: &mut [u8],
     second: &mut [u8],

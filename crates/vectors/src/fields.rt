@@ -19,7 +19,7 @@ use types::refusal::number;
 use types::value::type_number;
 use types::value::type_of;
 
-pub fn call(
+pub(crate) fn call(
     op: u8,
     line: &[u8; 496],
     first: &mut [u8],

@@ -64,25 +64,25 @@ fn space_of(n: u8) -> RegionSpace {
     }
 }
 
-pub fn offset_of(line: &[u8; 496], at: usize) -> u64
+pub(crate) fn offset_of(line: &[u8; 496], at: usize) -> u64
     requires { ⌜ at ≤ 335 ⌝ }
 {
     word(line, at + OFFSET)
 }
 
-pub fn length_of(line: &[u8; 496], at: usize) -> u64
+pub(crate) fn length_of(line: &[u8; 496], at: usize) -> u64
     requires { ⌜ at ≤ 335 ⌝ }
 {
     word(line, at + LENGTH)
 }
 
-pub fn flags_of(line: &[u8; 496], at: usize) -> FieldFlags
+pub(crate) fn flags_of(line: &[u8; 496], at: usize) -> FieldFlags
     requires { ⌜ at ≤ 335 ⌝ }
 {
     FieldFlags::new(byte(line, at + FLAGS))
 }
 
-pub fn field_of(line: &[u8; 496], at: usize) -> FieldUnit
+pub(crate) fn field_of(line: &[u8; 496], at: usize) -> FieldUnit
     requires { ⌜ at ≤ 335 ⌝ }
 {
     FieldUnit {
@@ -94,7 +94,7 @@ pub fn field_of(line: &[u8; 496], at: usize) -> FieldUnit
 }
 
 // The field of the first operand, written with the number of the second.
-pub fn op_of(line: &[u8; 496]) -> FieldOp {
+pub(crate) fn op_of(line: &[u8; 496]) -> FieldOp {
     FieldOp {
         write: byte(line, WRITES) != 0,
         field: field_of(line, FIRST),
@@ -102,7 +102,7 @@ pub fn op_of(line: &[u8; 496]) -> FieldOp {
     }
 }
 
-pub fn value_of(line: &[u8; 496], at: usize) -> AmlValue
+pub(crate) fn value_of(line: &[u8; 496], at: usize) -> AmlValue
     requires { ⌜ at ≤ 335 ⌝ }
 {
     let kind = byte(line, at + KIND);
@@ -129,7 +129,7 @@ pub fn value_of(line: &[u8; 496], at: usize) -> AmlValue
 }
 
 // The type whose number stands in `made`.
-pub fn type_named(line: &[u8; 496]) -> AmlType {
+pub(crate) fn type_named(line: &[u8; 496]) -> AmlType {
     let n = word(line, MADE);
     match n {
         1 => AmlType::Integer,

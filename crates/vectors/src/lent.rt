@@ -7,7 +7,7 @@ use crate::lines::put_byte;
 use crate::lines::put_half;
 
 // The bytes of an operand's seed; 2 names those of its head.
-pub fn fill(line: &[u8; 496], at: usize, bytes: &mut [u8])
+pub(crate) fn fill(line: &[u8; 496], at: usize, bytes: &mut [u8])
     requires { ⌜ at ≤ 335 ⌝ }
 {
     let seed = half(line, at + job::SEED);
@@ -19,7 +19,7 @@ pub fn fill(line: &[u8; 496], at: usize, bytes: &mut [u8])
 }
 
 // The output's, which has no head.
-pub fn fill_out(line: &[u8; 496], out: &mut [u8]) {
+pub(crate) fn fill_out(line: &[u8; 496], out: &mut [u8]) {
     fill_seed(half(line, job::OUT_SEED), out);
 }
 
@@ -105,7 +105,7 @@ fn byte_from(bytes: &[u8], from: usize, i: usize) -> u8 {
 }
 
 // The sum, and behind it sixteen bytes from one on.
-pub fn tell(text: &mut [u8; 232], at: usize, bytes: &[u8], from: u32)
+pub(crate) fn tell(text: &mut [u8; 232], at: usize, bytes: &[u8], from: u32)
     requires { ⌜ at ≤ 190 ⌝ }
 {
     put_half(text, at, sum(bytes));

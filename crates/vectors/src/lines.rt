@@ -42,19 +42,19 @@ fn number(line: &[u8; 496], at: usize, digits: usize) -> u64
     x
 }
 
-pub fn byte(line: &[u8; 496], at: usize) -> u8
+pub(crate) fn byte(line: &[u8; 496], at: usize) -> u8
     requires { ⌜ at ≤ 494 ⌝ }
 {
     (number(line, at, 2) % 256) as u8
 }
 
-pub fn half(line: &[u8; 496], at: usize) -> u32
+pub(crate) fn half(line: &[u8; 496], at: usize) -> u32
     requires { ⌜ at ≤ 488 ⌝ }
 {
     (number(line, at, 8) % 4294967296) as u32
 }
 
-pub fn word(line: &[u8; 496], at: usize) -> u64
+pub(crate) fn word(line: &[u8; 496], at: usize) -> u64
     requires { ⌜ at ≤ 480 ⌝ }
 {
     number(line, at, 16)
@@ -74,19 +74,19 @@ fn put(text: &mut [u8; 232], at: usize, digits: usize, x: u64)
     }
 }
 
-pub fn put_byte(text: &mut [u8; 232], at: usize, x: u8)
+pub(crate) fn put_byte(text: &mut [u8; 232], at: usize, x: u8)
     requires { ⌜ at ≤ 230 ⌝ }
 {
     put(text, at, 2, x as u64);
 }
 
-pub fn put_half(text: &mut [u8; 232], at: usize, x: u32)
+pub(crate) fn put_half(text: &mut [u8; 232], at: usize, x: u32)
     requires { ⌜ at ≤ 224 ⌝ }
 {
     put(text, at, 8, x as u64);
 }
 
-pub fn put_word(text: &mut [u8; 232], at: usize, x: u64)
+pub(crate) fn put_word(text: &mut [u8; 232], at: usize, x: u64)
     requires { ⌜ at ≤ 216 ⌝ }
 {
     put(text, at, 16, x);

@@ -9,7 +9,7 @@ use types::refusal::Outcome;
 use types::value::AmlValue;
 
 // Those that need no output.
-pub fn call(
+pub(crate) fn call(
     op: u8,
     line: &[u8; 496],
     first: &[u8],
@@ -47,7 +47,7 @@ pub fn call(
 }
 
 // Those that write one.
-pub fn call_out(
+pub(crate) fn call_out(
     op: u8,
     line: &[u8; 496],
     first: &[u8],
@@ -112,7 +112,12 @@ fn mid(line: &[u8; 496], source: &[u8], index: &[u8], count: &[u8], text: &mut [
     }
 }
 
-pub fn mid_part<'a>(line: &[u8; 496], source: &'a [u8], index: &[u8], count: &[u8]) -> &'a [u8] {
+pub(crate) fn mid_part<'a>(
+    line: &[u8; 496],
+    source: &'a [u8],
+    index: &[u8],
+    count: &[u8],
+) -> &'a [u8] {
     expression::mid::def_mid_part(
         job::value_of(line, job::FIRST),
         source,

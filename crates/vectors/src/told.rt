@@ -39,7 +39,7 @@ pub const COUNTED: usize = 173;
 pub const OUT: usize = 190; // the output after the call
 
 // Every column 0, but those of the lent bytes.
-pub fn clear(text: &mut [u8; 232]) {
+pub(crate) fn clear(text: &mut [u8; 232]) {
     put_byte(text, STATUS, 0);
     put_byte(text, PRESENT, 0);
     put_byte(text, WANTED, 0);
@@ -55,7 +55,7 @@ pub fn clear(text: &mut [u8; 232]) {
     text[231] = b'\n';
 }
 
-pub fn status_of(o: Outcome) -> u8 {
+pub(crate) fn status_of(o: Outcome) -> u8 {
     match o {
         Outcome::Done => 0,
         Outcome::Refused(r) => number(r),
@@ -63,7 +63,7 @@ pub fn status_of(o: Outcome) -> u8 {
 }
 
 // The number, and the types that it carries.
-pub fn refused(r: Refusal, text: &mut [u8; 232]) {
+pub(crate) fn refused(r: Refusal, text: &mut [u8; 232]) {
     put_byte(text, STATUS, number(r));
     match types_of(r) {
         Types::Nothing => {}
@@ -75,13 +75,13 @@ pub fn refused(r: Refusal, text: &mut [u8; 232]) {
     }
 }
 
-pub fn outcome(o: Outcome, text: &mut [u8; 232]) {
+pub(crate) fn outcome(o: Outcome, text: &mut [u8; 232]) {
     if let Outcome::Refused(r) = o {
         refused(r, text);
     }
 }
 
-pub fn result(kind: u8, value: u64, count: u64, text: &mut [u8; 232]) {
+pub(crate) fn result(kind: u8, value: u64, count: u64, text: &mut [u8; 232]) {
     put_byte(text, RESULT, kind);
     put_word(text, VALUE, value);
     put_word(text, COUNT, count);

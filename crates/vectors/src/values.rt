@@ -9,7 +9,7 @@ use value::convert::TypeAnswer;
 use value::status::StatusAnswer;
 use value::status::StatusObject;
 
-pub fn call(op: u8, line: &[u8; 496], bytes: &[u8], out: &mut [u8], text: &mut [u8; 232]) {
+pub(crate) fn call(op: u8, line: &[u8; 496], bytes: &[u8], out: &mut [u8], text: &mut [u8; 232]) {
     let value = job::value_of(line, job::FIRST);
     match op {
         9 => integer(value::convert::as_integer(value, bytes), text),
@@ -28,7 +28,7 @@ pub fn call(op: u8, line: &[u8; 496], bytes: &[u8], out: &mut [u8], text: &mut [
     }
 }
 
-pub fn integer(answer: IntegerAnswer, text: &mut [u8; 232]) {
+pub(crate) fn integer(answer: IntegerAnswer, text: &mut [u8; 232]) {
     match answer {
         IntegerAnswer::Integer(x) => told::result(1, x, 0, text),
         IntegerAnswer::Refused(r) => told::refused(r, text),
@@ -43,7 +43,7 @@ fn truth(answer: BoolAnswer, text: &mut [u8; 232]) {
 }
 
 // A Buffer's or a String's bytes, as the kind of the result says.
-pub fn length(kind: u8, answer: LengthAnswer, text: &mut [u8; 232]) {
+pub(crate) fn length(kind: u8, answer: LengthAnswer, text: &mut [u8; 232]) {
     match answer {
         LengthAnswer::Length(n) => told::result(kind, 0, n as u64, text),
         LengthAnswer::Refused(r) => told::refused(r, text),
@@ -85,13 +85,13 @@ fn written(answer: UnitWritten, text: &mut [u8; 232]) {
     }
 }
 
-pub fn write_value(line: &[u8; 496], region: &mut [u8], bytes: &[u8], text: &mut [u8; 232]) {
+pub(crate) fn write_value(line: &[u8; 496], region: &mut [u8], bytes: &[u8], text: &mut [u8; 232]) {
     let field = job::field_of(line, job::FIRST);
     let value = job::value_of(line, job::SECOND);
     written(value::field::write_value(region, field, value, bytes), text);
 }
 
-pub fn write_value_self(line: &[u8; 496], region: &mut [u8], text: &mut [u8; 232]) {
+pub(crate) fn write_value_self(line: &[u8; 496], region: &mut [u8], text: &mut [u8; 232]) {
     let field = job::field_of(line, job::FIRST);
     let value = job::value_of(line, job::SECOND);
     written(value::field::write_value_self(region, field, value), text);
