@@ -10,7 +10,7 @@ use lib.ListN.{length}
 use lib.Bits.{bitAnd, bitOr, bitXor, differ, and-step, or-step, xor-step, and-shr, or-shr, xor-shr, or-lt, xor-lt, and-le-r, and-mask}
 use lib.Pow.{pow-pos, pow-add, pow-mono, pow-lt, shl-exact, shl-lt, shl-shr, shr-shr, high, ones-split}
 use Rattle.bits.specs.Bits.{bitOf, bitAt, run, put, setBits}
-use Rattle.bits.proofs.Laws.{lt-cases, bitOf-lt, bitOf-high, bitOf-shift, bitAt-lt, bitAt-end, run-lt, run-below, run-bit, run-high, run-whole, run-eq, run-mod, run-more, put-below, put-cases}
+use Rattle.bits.proofs.Laws.{lt-cases, bitOf-lt, bitOf-high, bitOf-shift, bitAt-lt, bitAt-end, run-lt, run-below, run-bit, run-high, run-whole, run-eq, run-mod, run-more, put-cases}
 use Rattle.bits.proofs.With.{withBits-end, withBits-over}
 
 -- ---- bits of and, or, xor, of a remainder and of a shift to the left
@@ -167,12 +167,6 @@ merge-low-law old n v b h =
     (λ a. let no : ⊥ = omega arith in absurd no)
     (λ a d. ap (bitOf v) (sub-zero i) ∙ sym (masked-new old v m i (ones-bit n i (omega arith))))
     (λ a. sym (masked-old old v m i (bitOf-high m n i (omega (arith, pow-pos n)) (omega arith))))))))
-
--- past bit 63 there is nothing to replace
-pub merge-none : (old at n v : ℕ) → old < 2 ^ 64 → 64 ≤ at → old ≡ run (put (bitOf old) at n (bitOf v)) 0 64
-merge-none old at n v b h =
-    run-eq (put (bitOf old) at n (bitOf v)) old 0 64 b
-    (λ i l. rw (zero-add i) (sym (put-below (bitOf old) at n (bitOf v) i (omega arith))))
 
 -- ---- bytes side by side
 

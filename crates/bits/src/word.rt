@@ -44,13 +44,3 @@ pub(crate) fn merge_low(old: u64, n: usize, value: u64) -> u64
 {
     old ^ ((old ^ value) & ((1 << n) - 1))
 }
-
-// merge_at for any place: past bit 63 there is nothing to replace.
-pub fn merge(old: u64, at: usize, n: usize, value: u64) -> u64
-    ensures { λ r. ⌜ r ≡ run (put (bitOf old) at n (bitOf value)) 0 64 ⌝ }
-{
-    if at < 64 {
-        return merge_at(old, at, n, value);
-    }
-    old
-}

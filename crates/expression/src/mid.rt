@@ -1,7 +1,8 @@
-// Mid, in two calls: one for the refusal, one for the part, which is empty where Mid is refused.
+// Mid: where the part stands in its source, or the refusal; then each of the two alone, the part being empty where Mid is refused.
 ghost use mathlib.Core.Path.{_≡_};
-ghost use lib.ListN;
+ghost use Prim.Native.Nat.{_-_, min};
 ghost use Rattle.expression.specs.Mid as M;
+ghost use Rattle.expression.specs.declared.mid.Place.the-variants as P;
 use crate::number::Operands;
 use crate::number::both_operands;
 use types::refusal::Outcome;
@@ -9,7 +10,52 @@ use types::refusal::Refusal;
 use types::value::AmlValue;
 use types::value::type_of;
 
+// Where the part begins in the source, at its index or at the end, and how many bytes it has.
+pub enum Place {
+    At(u64, u64),
+    Refused(Refusal),
+}
+
+fn lesser(a: u64, b: u64) -> u64
+    ensures { λ r. ⌜ r ≡ min a b ⌝ }
+{
+    if a <= b { a } else { b }
+}
+
+// The part from index, of so many bytes where there are as many.
+fn cut(size: u64, index: u64, count: u64) -> Place
+    ensures { λ r. ⌜ r ≡ P.At (min index size) (min count (size - min index size)) ⌝ }
+{
+    let at = lesser(index, size);
+    Place::At(at, lesser(count, size - at))
+}
+
 // "index, length, 5"; 27 of any of the three first.
+pub fn def_mid_place(
+    source: AmlValue,
+    source_bytes: &[u8],
+    index: AmlValue,
+    index_bytes: &[u8],
+    length: AmlValue,
+    length_bytes: &[u8],
+) -> Place
+    ensures { λ r. ⌜ r ≡ M.midPlace source (now («source_bytes» .entry)) index (now («index_bytes» .entry)) length (now («length_bytes» .entry)) ⌝ }
+{
+    if 65536 < source_bytes.len() {
+        return Place::Refused(Refusal::TooManyBytes);
+    }
+    let both = both_operands(index, index_bytes, length, length_bytes);
+    match both {
+        Operands::Two(at, count) => match source {
+            AmlValue::String => cut(source_bytes.len() as u64, at, count),
+            AmlValue::Buffer => cut(source_bytes.len() as u64, at, count),
+            _ => Place::Refused(Refusal::TypeCannotBeSliced(type_of(source))),
+        },
+        Operands::Refused(r) => Place::Refused(r),
+    }
+}
+
+// The refusal alone.
 pub fn def_mid(
     source: AmlValue,
     source_bytes: &[u8],
@@ -20,34 +66,18 @@ pub fn def_mid(
 ) -> Outcome
     ensures { λ r. ⌜ r ≡ M.midOutcome (M.mid source (now («source_bytes» .entry)) index (now («index_bytes» .entry)) length (now («length_bytes» .entry))) ⌝ }
 {
-    if 65536 < source_bytes.len() {
-        return Outcome::Refused(Refusal::TooManyBytes);
+    let found = def_mid_place(
+        source,
+        source_bytes,
+        index,
+        index_bytes,
+        length,
+        length_bytes,
+    );
+    match found {
+        Place::At(_, _) => Outcome::Done,
+        Place::Refused(r) => Outcome::Refused(r),
     }
-    let both = both_operands(index, index_bytes, length, length_bytes);
-    if let Operands::Refused(r) = both {
-        return Outcome::Refused(r);
-    }
-    match source {
-        AmlValue::String => Outcome::Done,
-        AmlValue::Buffer => Outcome::Done,
-        _ => Outcome::Refused(Refusal::TypeCannotBeSliced(type_of(source))),
-    }
-}
-
-// The part of s from index, of so many bytes where there are as many.
-fn part(s: &[u8], index: u64, count: u64) -> &[u8]
-    ensures { λ r. ⌜ now r ≡ M.part (now (s .entry)) index count ⌝ }
-{
-    let n = s.len() as u64;
-    if n <= index {
-        return &s[..0];
-    }
-    let at = index as usize;
-    if n - index <= count {
-        return &s[at..];
-    }
-    let end = at + count as usize;
-    &s[at..end]
 }
 
 // The part itself, of the source's own bytes.
@@ -61,16 +91,17 @@ pub fn def_mid_part<'a>(
 ) -> &'a [u8]
     ensures { λ r. ⌜ now r ≡ M.midPart (M.mid source (now («source_bytes» .entry)) index (now («index_bytes» .entry)) length (now («length_bytes» .entry))) ⌝ }
 {
-    if 65536 < source_bytes.len() {
-        return &source_bytes[..0];
-    }
-    let both = both_operands(index, index_bytes, length, length_bytes);
-    let Operands::Two(at, count) = both else {
+    let found = def_mid_place(
+        source,
+        source_bytes,
+        index,
+        index_bytes,
+        length,
+        length_bytes,
+    );
+    let Place::At(at, count) = found else {
         return &source_bytes[..0];
     };
-    match source {
-        AmlValue::String => part(source_bytes, at, count),
-        AmlValue::Buffer => part(source_bytes, at, count),
-        _ => &source_bytes[..0],
-    }
+    let end = at + count;
+    &source_bytes[at as usize..end as usize]
 }

@@ -7,14 +7,14 @@ use mathlib.Core.List.{List, [], _∷_}
 use Prim.Native.Nat.{ℕ, zero, suc, _+_, _-_, _*_, _/_, _%_, _^_, _≤_, _<_, min, max}
 use native.Mathlib.Nat.{zero-add, mod-lt}
 use native.Mathlib.Omega.{arith}
-use lib.Bits.{bitAnd, bitOr, or-lt}
+use lib.Bits.{bitAnd, bitOr, bitXor, or-lt}
 use lib.Count.{trailingZeros}
 use lib.Pow.{pow-pos, shr-lt}
 use lib.ListN.{length, getD}
 use Rattle.bits.specs.Bits.{bitOf, run, put, from, getBits, setBits}
 use Rattle.bits.proofs.Laws.{lt-cases, bitOf-lt, bitOf-none, bitOf-shift, run-below, run-ext, run-bit, run-high, run-eq, put-in, put-below, put-above, put-cases, put-lt}
 use Rattle.bits.proofs.With.{withBits-cong}
-use Rattle.bits.proofs.Words.{bitOf-or, bitOf-shl, bitOf-shl-low, low-law, ones-bit}
+use Rattle.bits.proofs.Words.{bitOf-or, bitOf-shl, bitOf-shl-low, low-law, ones-bit, merge-law}
 use Rattle.types.proofs.Widths.{Width, of-width}
 use Rattle.types.specs.declared.flags.FieldUpdateRule.{FieldUpdateRule}
 use Rattle.types.specs.declared.flags.FieldUpdateRule.the-variants as U
@@ -143,6 +143,25 @@ merges-all p v u h b l e =
     ∙ ap (p .bits) f
     ∙ sym (put-in (others (p .rule) (bitOf h)) (lo p u - base p u) (hi p u - lo p u) (from (p .bits) (lo p u - p .offset)) (0 + i) (omega arith) (omega arith)))
 
+-- n ones
+ones-run : (n : ℕ) → n ≤ 64 → (2 ^ 64 - 1) / 2 ^ (64 - n) ≡ run (bitOf (2 ^ 64 - 1)) 0 n
+ones-run n h =
+    let e : n + (64 - n) ≡ 64 = omega arith in
+    run-eq (bitOf (2 ^ 64 - 1)) ((2 ^ 64 - 1) / 2 ^ (64 - n)) 0 n
+    (shr-lt n (64 - n) (rw e (omega (arith, pow-pos 64))))
+    (λ i l.
+    bitOf-shift (2 ^ 64 - 1) (64 - n) i
+    ∙ ones-bit 64 (64 - n + i) (omega arith)
+    ∙ sym (ones-bit 64 (0 + i) (omega arith)))
+
+-- one run put into another, by a mask of n ones moved to bit at
+pub merge-is : (old at n v : ℕ) → old < 2 ^ 64 → 1 ≤ n → at + n ≤ 64
+    → bitXor old (bitAnd (bitXor old (v * 2 ^ at % 2 ^ 64)) (18446744073709551615 / 2 ^ (64 - n) * 2 ^ at % 2 ^ 64))
+    ≡ run (put (bitOf old) at n (bitOf v)) 0 64
+merge-is old at n v b h l =
+    ap (λ (m : ℕ). bitXor old (bitAnd (bitXor old (v * 2 ^ at % 2 ^ 64)) (m * 2 ^ at % 2 ^ 64))) (ones-run n (omega arith))
+    ∙ merge-law old at n v b (omega arith)
+
 pub merges : (p : Plan) (v u h a : ℕ) → ((k : ℕ) → p .bits k ≡ bitOf v k) → p .width ≤ 64
     → ((k : ℕ) → k < 64 → bitOf a k ≡ others (p .rule) (bitOf h) k)
     → run (bitOf (run (put (bitOf a) (lo p u - base p u) (hi p u - lo p u) (bitOf (v / 2 ^ (lo p u - p .offset)))) 0 64)) 0 (p .width) ≡ merged p u h
@@ -247,19 +266,16 @@ module _ (op : FieldOp) (u h w : ℕ) (ew : w ≡ planOf op .width) where
         ∙ ap (gathered plan u h) (e ∙ ap (λ (y : ℕ). getBits s (u * y) y) ew)
         ∙ sym (ap (λ (b : Bool). cond b (getBits s (base plan u) (plan .width)) (gathered plan u h (getBits s (base plan u) (plan .width)))) f)
 
-    pub load-holds : (x : ℕ) → op .write ≡ true → x ≡ getBits s (u * w) w → progress s x ≡ act plan (Load u) (progress s h)
+    pub load-keeps : (x : ℕ) → op .write ≡ true → x ≡ getBits s (u * w) w → x ≡ act plan (Load u) (progress s h) .held
     unfolding act
-    load-holds x t e =
-        ap (progress s)
-        (e
-        ∙ ap (λ (y : ℕ). getBits s (u * y) y) ew
-        ∙ sym (ap (λ (b : Bool). cond b (getBits s (base plan u) (plan .width)) (gathered plan u h (getBits s (base plan u) (plan .width)))) t))
-
-    pub store-puts : (t : List ℕ) (x : ℕ) → Width w → t ≡ setBits s (8 * (u * (w / 8))) (8 * min (w / 8) 8) x → run (bitOf x) 0 w ≡ merged plan u h
-        → t ≡ act plan (Store u) (progress s h) .region
-    unfolding act
-    store-puts t x ok e m =
+    load-keeps x t e =
         e
-        ∙ ap₂ (λ (o n : ℕ). setBits s o n x) (unit-place w u ok) (unit-size w ok)
+        ∙ ap (λ (y : ℕ). getBits s (u * y) y) ew
+        ∙ sym (ap (λ (b : Bool). cond b (getBits s (base plan u) (plan .width)) (gathered plan u h (getBits s (base plan u) (plan .width)))) t)
+
+    pub store-puts : (t : List ℕ) (x : ℕ) → t ≡ setBits s (u * w) w x → run (bitOf x) 0 w ≡ merged plan u h → t ≡ act plan (Store u) (progress s h) .region
+    unfolding act
+    store-puts t x e m =
+        e
         ∙ stores s (u * w) w x (merged plan u h) m
         ∙ ap (λ (y : ℕ). setBits s (u * y) y (merged plan u h)) ew

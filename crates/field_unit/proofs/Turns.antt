@@ -1,26 +1,18 @@
--- A loop over the accesses: what is left of the list, run from here, is the whole list run from the start. A read's turn makes one unit's load, a
--- write's turn one access.
+-- The loop over a write's accesses: what is left of the list, run from here, is the whole list run from the start.
 -- Assumes nothing.
-use mathlib.Core.Path.{_≡_, refl, sym, ap, ap₂, _∙_}
-use mathlib.Core.Bool.{Bool, true, false, cond, _&&_, not}
+use mathlib.Core.Path.{_≡_, refl, sym, ap, _∙_}
+use mathlib.Core.Bool.{Bool, true, false, cond, _&&_, not, false≢true}
 use mathlib.Core.List.{List, [], _∷_}
-use Prim.Native.Nat.{ℕ, suc, _+_, _-_, _≤_, _<_, min}
+use Prim.Native.Nat.{ℕ, _+_, _≤_, _<_}
 use native.Mathlib.Omega.{arith}
-use lib.ListN.{length, take}
-use lib.Seq.{take-nil, take-all}
+use lib.ListN.{length}
 use Rattle.bits.specs.Bits.{bitOf}
 use Rattle.bits.proofs.With.{withBits-length}
 use Rattle.field_unit.specs.Accesses.{Plan, Progress, progress, base, first, last, unitOf, partly, accesses, merged, act, acts, whole}
-use Rattle.field_unit.specs.Calls.{planOf, countOf, accessAt, Accepted}
-use Rattle.field_unit.specs.Left.{left, isStore}
-use Rattle.field_unit.specs.declared.access.FieldOp.{FieldOp}
+use Rattle.field_unit.specs.Left.{left}
 use Rattle.field_unit.specs.declared.access.Access.{Access}
 use Rattle.field_unit.specs.declared.access.Access.the-variants.{Load, Store}
-use Rattle.field_unit.proofs.Running.{acts-one, load-held}
-use Rattle.field_unit.proofs.Remaining.{left-whole, left-over, left-step, left-nth}
-use Rattle.field_unit.proofs.Accepted.{facts}
-use Rattle.field_unit.proofs.Listing.{nth-read}
-use Rattle.field_unit.proofs.Bounds.{count-most}
+use Rattle.field_unit.proofs.Remaining.{left-whole, left-over, left-step}
 
 -- ---- the loop of a write
 
@@ -46,46 +38,41 @@ pub unit-of-cond : (c : Bool) (u : ℕ) → unitOf (cond c (Load u) (Store u)) �
 unit-of-cond true u = refl
 unit-of-cond false u = refl
 
--- begun with region s and h held at unit v, there are n accesses made; the loop stands at unit u with region t and g held
-pub record Writing (p : Plan) (limit : ℕ) (s : List ℕ) (h v : ℕ) (d : Bool) (t : List ℕ) (g u : ℕ) (b : Bool) (n : ℕ) : Type 0 where
+-- of a write of region s there are n accesses made; the loop stands at unit u, loaded already or not, with region t and g held
+pub record Writing (p : Plan) (s t : List ℕ) (g u : ℕ) (b : Bool) (n : ℕ) : Type 0 where
   pub size : length t ≡ length s
   pub from : first p ≤ u
   pub kept : b ≡ true → u ≤ last p
-  pub most : n ≤ limit
-  pub rest : acts p (take (limit - n) (left p u b)) (progress t g) ≡ acts p (take limit (left p v d)) (progress s h)
-  pub counted : n + min (limit - n) (length (left p u b)) ≡ min limit (length (left p v d))
+  pub rest : acts p (left p u b) (progress t g) ≡ whole p s
+  pub counted : n + length (left p u b) ≡ length (accesses p)
 
-pub writing-start : (p : Plan) (limit : ℕ) (s : List ℕ) (h v : ℕ) (d : Bool) → first p ≤ v → v ≤ last p → Writing p limit s h v d s h v d 0
-writing-start p limit s h v d a b =
-    let z : limit - 0 ≡ limit = omega arith in
+pub writing-start : (p : Plan) (s : List ℕ) (u : ℕ) → u ≡ first p → Writing p s s 0 u false 0
+unfolding whole
+writing-start p s u e =
+    let l : left p u false ≡ accesses p = ap (λ (x : ℕ). left p x false) e ∙ left-whole p in
     record {
       size = refl;
-      from = a;
-      kept = λ _. b;
-      most = omega arith;
-      rest = ap (λ (k : ℕ). acts p (take k (left p v d)) (progress s h)) z;
-      counted = omega (arith, ap (λ (k : ℕ). min k (length (left p v d))) z);
+      from = omega (arith, e);
+      kept = λ z. absurd (false≢true z);
+      rest = ap (λ (x : List Access). acts p x (progress s 0)) l;
+      counted = omega (arith, ap length l);
     }
 
-module _ (p : Plan) (limit : ℕ) (s : List ℕ) (h v : ℕ) (d : Bool) (t : List ℕ) (g u : ℕ) (b : Bool) (n : ℕ) (i : Writing p limit s h v d t g u b n) where
-  pub writing-next : (r : List ℕ) (k x : ℕ) (a : Access) (c : Bool) → p .write ≡ true → u ≤ last p → n < limit → c ≡ stays p u b
-      → a ≡ cond c (Load u) (Store u) → x ≡ cond c u (u + 1) → progress r k ≡ act p a (progress t g) → Writing p limit s h v d r k x c (n + 1)
-  writing-next r k x a c w l m ec ea ex e =
+module _ (p : Plan) (s t : List ℕ) (g u : ℕ) (b : Bool) (n : ℕ) (i : Writing p s t g u b n) where
+  pub writing-next : (r : List ℕ) (k x : ℕ) (a : Access) (c : Bool) → p .write ≡ true → u ≤ last p → c ≡ stays p u b
+      → a ≡ cond c (Load u) (Store u) → x ≡ cond c u (u + 1) → progress r k ≡ act p a (progress t g) → Writing p s r k x c (n + 1)
+  writing-next r k x a c w l ec ea ex e =
       let q : left p u b ≡ a ∷ left p x c = left-step p u b w l c ec ∙ ap (λ (y : Access). y ∷ left p (cond c u (u + 1)) c) (sym ea) ∙ ap (λ (y : ℕ). a ∷ left p y c) (sym ex) in
-      let z : limit - n ≡ suc (limit - (n + 1)) = omega arith in
-      let j = ap length q in
       record {
         size = ap (λ (y : Progress). length (y .region)) e ∙ act-length p a (progress t g) ∙ i .size;
         from = after-from c ex;
         kept = after-kept c ex;
-        most = omega arith;
         rest =
-            ap (acts p (take (limit - (n + 1)) (left p x c))) e
-            ∙ sym (acts-more p a (take (limit - (n + 1)) (left p x c)) (progress t g))
-            ∙ ap (λ (y : List Access). acts p (take (suc (limit - (n + 1))) y) (progress t g)) (sym q)
-            ∙ ap (λ (y : ℕ). acts p (take y (left p u b)) (progress t g)) (sym z)
+            ap (acts p (left p x c)) e
+            ∙ sym (acts-more p a (left p x c) (progress t g))
+            ∙ ap (λ (y : List Access). acts p y (progress t g)) (sym q)
             ∙ i .rest;
-        counted = omega (arith, i .counted);
+        counted = omega (arith, i .counted, ap length q);
       }
     where
       after-from : (c : Bool) → x ≡ cond c u (u + 1) → first p ≤ x
@@ -94,73 +81,23 @@ module _ (p : Plan) (limit : ℕ) (s : List ℕ) (h v : ℕ) (d : Bool) (t : Lis
 
       after-kept : (c : Bool) → x ≡ cond c u (u + 1) → c ≡ true → x ≤ last p
       after-kept true q _ = omega arith
-      after-kept false q z = absurd (mathlib.Core.Bool.false≢true z)
+      after-kept false q z = absurd (false≢true z)
 
-  -- as many as asked for were made
-  pub writing-full : limit ≤ n → (n ≡ min limit (length (left p v d))) × (progress t g ≡ acts p (take limit (left p v d)) (progress s h))
-  writing-full l =
-      let z : limit - n ≡ 0 = omega arith in (
-        omega (arith, i .counted, i .most),
-        sym (acts-none p (progress t g)) ∙ ap (λ (y : ℕ). acts p (take y (left p u b)) (progress t g)) (sym z) ∙ i .rest,
-      )
+  -- each access leaves one less
+  pub writing-less : (x : ℕ) (c : Bool) → p .write ≡ true → u ≤ last p → c ≡ stays p u b → x ≡ cond c u (u + 1) → length (left p x c) < length (left p u b)
+  writing-less x c w l ec ex =
+      let q = ap length (left-step p u b w l c ec) in
+      let z : length (left p x c) ≡ length (left p (cond c u (u + 1)) c) = ap (λ (y : ℕ). length (left p y c)) ex in
+      omega (arith, q, z)
 
-  -- or there is none left
-  pub writing-over : last p < u → (n ≡ min limit (length (left p v d))) × (progress t g ≡ acts p (take limit (left p v d)) (progress s h))
+  -- none is left
+  pub writing-over : last p < u → (n ≡ length (accesses p)) × (t ≡ whole p s .region)
   writing-over l = go b refl
     where
-      go : (y : Bool) → b ≡ y → (n ≡ min limit (length (left p v d))) × (progress t g ≡ acts p (take limit (left p v d)) (progress s h))
+      go : (y : Bool) → b ≡ y → (n ≡ length (accesses p)) × (t ≡ whole p s .region)
       go true e = let no : ⊥ = omega (arith, i .kept e) in absurd no
       go false e =
-          let q : left p u b ≡ [] = ap (left p u) e ∙ left-over p u l in
-          let z = ap length q in (
-            omega (arith, i .counted),
-            sym (acts-none p (progress t g))
-                ∙ ap (λ (y : List Access). acts p y (progress t g)) (sym (take-nil (limit - n)) ∙ ap (take (limit - n)) (sym q))
-                ∙ i .rest,
+          let q : left p u b ≡ [] = ap (left p u) e ∙ left-over p u l in (
+            omega (arith, i .counted, ap length q),
+            ap (λ (y : Progress). y .region) (sym (acts-none p (progress t g)) ∙ ap (λ (y : List Access). acts p y (progress t g)) (sym q) ∙ i .rest),
           )
-
--- ---- what a run makes
-
--- from the first unit on, up to 11: all of them, since there are no more
-pub run-whole : (op : FieldOp) (size : ℕ) → Accepted op size → (s t : List ℕ) (u n g : ℕ) → u ≡ first (planOf op)
-    → n ≡ min 11 (length (left (planOf op) u false)) → progress t g ≡ acts (planOf op) (take 11 (left (planOf op) u false)) (progress s 0)
-    → (n ≡ countOf op) × (t ≡ whole (planOf op) s .region)
-run-whole op size ok s t u n g e c r =
-    let p = planOf op in
-    let l : left p u false ≡ accesses p = ap (λ (x : ℕ). left p x false) e ∙ left-whole p in
-    let m = count-most op size ok in (
-      c ∙ ap (λ (x : List Access). min 11 (length x)) l ∙ least (countOf op) m,
-      ap (λ (x : Progress). x .region)
-          (r ∙ ap (λ (x : List Access). acts p (take 11 x) (progress s 0)) l ∙ ap (λ (x : List Access). acts p x (progress s 0)) (take-all 11 (accesses p) m)),
-    )
-  where
-    least : (x : ℕ) → x ≤ 11 → min 11 x ≡ x
-    least x h = omega arith
-
--- one of them, from where access k stands: that access
-pub run-one : (op : FieldOp) (size : ℕ) → Accepted op size → op .write ≡ true → (k : ℕ) → k < countOf op → (s t : List ℕ) (h g u : ℕ) (b : Bool) (a : Access)
-    → a ≡ accessAt op k → u ≡ unitOf a → b ≡ isStore a → progress t g ≡ acts (planOf op) (take 1 (left (planOf op) u b)) (progress s h)
-    → progress t g ≡ act (planOf op) (accessAt op k) (progress s h)
-run-one op size ok w k l s t h g u b a ea eu eb r =
-    let p = planOf op in
-    let f = facts op size ok in
-    let eu' : u ≡ unitOf (accessAt op k) = eu ∙ ap unitOf ea in
-    let eb' : b ≡ isStore (accessAt op k) = eb ∙ ap isStore ea in
-    r
-    ∙ ap₂ (λ (x : ℕ) (y : Bool). acts p (take 1 (left p x y)) (progress s h)) eu' eb'
-    ∙ ap (λ (x : List Access). acts p x (progress s h)) (left-nth p k (omega arith) (omega arith) w l)
-    ∙ acts-one p (accessAt op k) (progress s h)
-
--- a read's access k is the load of its unit
-pub read-one : (op : FieldOp) (size : ℕ) → Accepted op size → op .write ≡ false → (k : ℕ) → k < countOf op → (s : List ℕ) (h g u : ℕ) (a : Access)
-    → a ≡ accessAt op k → u ≡ unitOf a → g ≡ act (planOf op) (Load u) (progress s h) .held
-    → progress s g ≡ act (planOf op) (accessAt op k) (progress s h)
-read-one op size ok w k l s h g u a ea eu e =
-    let p = planOf op in
-    let f = facts op size ok in
-    let n : accessAt op k ≡ Load (first p + k) = nth-read p k (omega arith) (omega arith) w l in
-    let v : u ≡ first p + k = eu ∙ ap unitOf (ea ∙ n) in
-    ap (progress s) e
-    ∙ sym (load-held p u s h)
-    ∙ ap (λ (x : ℕ). act p (Load x) (progress s h)) v
-    ∙ ap (λ (x : Access). act p x (progress s h)) (sym n)

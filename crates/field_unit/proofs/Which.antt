@@ -34,8 +34,8 @@ module _ (op : FieldOp) (size : ℕ) (ok : Accepted op size) where
   small = facts op size ok .last-most
 
   -- the unit of access k is one of the field's
-  pub unit-of : (k : ℕ) → k < countOf op → (first plan ≤ unitOf (accessAt op k)) × (unitOf (accessAt op k) ≤ last plan)
-  unit-of k l = nth-unit plan k wide some l
+  pub unit-of : (k : ℕ) → k < countOf op → {u : ℕ} → unitOf (accessAt op k) ≡ u → (first plan ≤ u) × (u ≤ last plan)
+  unit-of k l e = let n = nth-unit plan k wide some l in (omega arith, omega arith)
 
   module _ {fi la : ℕ} (ef : fi ≡ first plan) (el : la ≡ last plan) where
     pub read-count : op .write ≡ false → la - fi + 1 ≡ countOf op

@@ -1,10 +1,10 @@
-// One access of a field unit: a load or a store of one whole unit. Every load of a region is made by `fetch`, every store by `store`, in a
+// One access of a field unit: a load or a store of one whole unit. Every load of a region is made by `fetch`, every store by `put`, in a
 // whole call and alone. The width is looked up once for a call and handed down.
-ghost use mathlib.Core.Bool.{true, false};
+ghost use mathlib.Core.Bool.{true};
 ghost use mathlib.Core.Path.{_≡_};
 ghost use Prim.Native.Nat.{ℕ, _+_, _*_, _/_, _≤_, _<_, min, max};
 ghost use lib.ListN.{length};
-ghost use Rattle.bits.specs.Bits.{bitOf, run, put, getBits};
+ghost use Rattle.bits.specs.Bits.{bitOf, run, put, getBits, setBits};
 ghost use Rattle.types.proofs.Widths.{Width};
 ghost use Rattle.field_unit.specs.Accesses.{progress, first, last, base, partly, unitOf, gathered, merged, others, act};
 ghost use Rattle.field_unit.specs.Calls.{planOf, Accepted};
@@ -34,14 +34,6 @@ fn greater(a: u64, b: u64) -> u64
     ensures { λ r. ⌜ r ≡ max a b ⌝ }
 {
     if a <= b { b } else { a }
-}
-
-pub(crate) fn width(op: FieldOp) -> u64
-    ensures { λ r. ⌜ r ≡ planOf op .width ⌝ }
-{
-    let field = op.field;
-    let flags = field.flags;
-    flags.access_width()
 }
 
 fn rule(op: FieldOp) -> FieldUpdateRule
@@ -135,8 +127,17 @@ fn around(rule: FieldUpdateRule, held: u64) -> u64
     }
 }
 
+// old with its n bits from at on replaced by v's. A mask picks between the two.
+fn merge(old: u64, at: u64, n: u64, v: u64) -> u64
+    requires { ⌜ (1 ≤ n) × (at + n ≤ 64) ⌝ }
+    ensures { λ r. ⌜ r ≡ run (put (bitOf old) at n (bitOf v)) 0 64 ⌝ }
+{
+    let m = (0xffff_ffff_ffff_ffff >> (64 - n)) << at;
+    old ^ ((old ^ (v << at)) & m)
+}
+
 // The unit to store, in the lowest bits: the field's bits in it are the value's, the others, if there are any, go by the rule.
-fn merge_unit(op: FieldOp, width: u64, u: u64, held: u64, size: usize) -> u64
+pub(crate) fn merge_unit(op: FieldOp, width: u64, u: u64, held: u64, size: usize) -> u64
     requires { ⌜ (Accepted op size) × (width ≡ planOf op .width) × (first (planOf op) ≤ u) × (u ≤ last (planOf op)) ⌝ }
     ensures { λ r. ⌜ run (bitOf r) 0 width ≡ merged (planOf op) u held ⌝ }
 {
@@ -149,7 +150,7 @@ fn merge_unit(op: FieldOp, width: u64, u: u64, held: u64, size: usize) -> u64
     if n == width {
         return v;
     }
-    bits::word::merge(around(rule(op), held), (lo - base) as usize, n as usize, v)
+    merge(around(rule(op), held), lo - base, n, v)
 }
 
 // The unit u of the region.
@@ -161,22 +162,24 @@ pub(crate) fn fetch(width: u64, u: u64, region: &[u8]) -> u64
     bits::unit::load(region, (u * n) as usize, n as usize)
 }
 
-// The one access of a read: loads unit u. Answers what is held after it.
+// Loads unit u. Answers what is held after it: a read's bits so far, a write's unit for the store that follows.
 pub(crate) fn load(op: FieldOp, width: u64, u: u64, region: &[u8], held: u64) -> u64
-    requires { ⌜ (op .write ≡ false) × (Accepted op (length (now region))) × (width ≡ planOf op .width) × (first (planOf op) ≤ u) × (u ≤ last (planOf op)) ⌝ }
+    requires { ⌜ (Accepted op (length (now region))) × (width ≡ planOf op .width) × (first (planOf op) ≤ u) × (u ≤ last (planOf op)) ⌝ }
     ensures { λ r. ⌜ r ≡ act (planOf op) (Access.Load u) (progress (now (region .entry)) held) .held ⌝ }
 {
     let x = fetch(width, u, region);
+    if op.write {
+        return x;
+    }
     gather(op, width, u, held, x, region.len())
 }
 
-// Stores unit u.
-fn store(op: FieldOp, width: u64, u: u64, region: &mut [u8], held: u64)
-    requires { ⌜ (Accepted op (length (now region))) × (width ≡ planOf op .width) × (first (planOf op) ≤ u) × (u ≤ last (planOf op)) ⌝ }
-    ensures { λ _. ⌜ now (region .exit) ≡ act (planOf op) (Access.Store u) (progress (now (region .entry)) held) .region ⌝ }
+// Stores the lowest bits of x as the unit u of the region.
+pub(crate) fn put(width: u64, u: u64, region: &mut [u8], x: u64)
+    requires { ⌜ (Width width) × (u * width ≤ 524288) ⌝ }
+    ensures { λ _. ⌜ now (region .exit) ≡ setBits (now (region .entry)) (u * width) width x ⌝ }
 {
     let n = width / 8;
-    let x = merge_unit(op, width, u, held, region.len());
     bits::unit::store(region, (u * n) as usize, n as usize, x);
 }
 
@@ -188,7 +191,8 @@ pub(crate) fn act(op: FieldOp, width: u64, a: Access, region: &mut [u8], held: u
     match a {
         Access::Load(u) => fetch(width, u, region),
         Access::Store(u) => {
-            store(op, width, u, region, held);
+            let x = merge_unit(op, width, u, held, region.len());
+            put(width, u, region, x);
             0
         }
     }

@@ -4,7 +4,9 @@ ghost use mathlib.Core.Path.{_≡_};
 ghost use Prim.Native.Nat.{_≤_};
 ghost use lib.Dec.{eqb};
 ghost use Rattle.types.proofs.Widths.{Width};
-ghost use Rattle.types.specs.Refusals.{firstOf};
+ghost use Rattle.types.specs.Flags.{accessWidth};
+ghost use Rattle.types.specs.Refusals.{firstOf, judged};
+ghost use Rattle.types.specs.declared.refusal.Refusal.{Refusal};
 ghost use Rattle.field_unit.specs.Checks.{supported, narrow, badFlags, outside, placeChecks, fieldChecks};
 use crate::access::units;
 use types::flags::FieldFlags;
@@ -74,26 +76,57 @@ fn is_outside(width: u64, offset: u64, length: u64, size: u64) -> bool
     bits < last * width + width
 }
 
-// Whether a read or a write of the field is accepted, in a region of size bytes.
-pub fn check_field(field: FieldUnit, write: bool, size: u64) -> Outcome
-    ensures { λ r. ⌜ r ≡ firstOf (fieldChecks write field size) ⌝ }
+// What the checks answer: the access width of a field that is accepted, or the refusal.
+pub(crate) enum Checked {
+    Width(u64),
+    Refused(Refusal),
+}
+
+// Why a field was refused: what the other case of a let-else returns. Of a width nothing is said.
+pub(crate) fn refusal_of(c: Checked) -> Refusal
+    ensures { λ r. ⌜ ((q : Refusal) → c ≡ Checked.Refused q → r ≡ q) ⌝ }
+{
+    match c {
+        Checked::Width(_) => Refusal::TooManyBytes,
+        Checked::Refused(r) => r,
+    }
+}
+
+// Checks a read or a write of the field, in a region of size bytes.
+pub(crate) fn check_width(field: FieldUnit, write: bool, size: u64) -> Checked
+    ensures { λ r. ⌜ r ≡ judged (firstOf (fieldChecks write field size)) (Checked.Width (accessWidth (field .flags .0))) Checked.Refused ⌝ }
 {
     let flags = field.flags;
     let space = field.space;
     if 65536 < size {
-        return Outcome::Refused(Refusal::TooManyBytes);
+        return Checked::Refused(Refusal::TooManyBytes);
     }
     if bad_flags(flags, write) {
-        return Outcome::Refused(Refusal::InvalidFieldFlags);
+        return Checked::Refused(Refusal::InvalidFieldFlags);
     }
     if !is_supported(space) {
-        return Outcome::Refused(Refusal::UnsupportedRegionSpace);
+        return Checked::Refused(Refusal::UnsupportedRegionSpace);
     }
     let width = flags.access_width();
     if is_too_wide(width, space) {
-        return Outcome::Refused(Refusal::QWordAccessInSpace);
+        return Checked::Refused(Refusal::QWordAccessInSpace);
     }
-    check_place(width, field.offset, field.length, size)
+    let placed = check_place(width, field.offset, field.length, size);
+    match placed {
+        Outcome::Done => Checked::Width(width),
+        Outcome::Refused(r) => Checked::Refused(r),
+    }
+}
+
+// Whether a read or a write of the field is accepted, in a region of size bytes.
+pub fn check_field(field: FieldUnit, write: bool, size: u64) -> Outcome
+    ensures { λ r. ⌜ r ≡ firstOf (fieldChecks write field size) ⌝ }
+{
+    let checked = check_width(field, write, size);
+    match checked {
+        Checked::Width(_) => Outcome::Done,
+        Checked::Refused(r) => Outcome::Refused(r),
+    }
 }
 
 // 21, then 22.

@@ -2,20 +2,19 @@
 ghost use mathlib.Core.Bool.{cond};
 ghost use mathlib.Core.Path.{_≡_};
 ghost use Prim.Native.Nat.{_<_};
-ghost use Rattle.field_unit.specs.Accesses.{unitOf};
 ghost use Rattle.field_unit.specs.Calls.{planOf, countOf, accessAt, Accepted, count, nextAccess, stepped};
-ghost use Rattle.field_unit.specs.Left.{isStore};
 use crate::access::Access;
 use crate::access::FieldOp;
 use crate::access::first_unit;
 use crate::access::is_partly;
 use crate::access::last_unit;
 use crate::access::load;
-use crate::access::width;
-use crate::check::check_field;
-use crate::run::run;
+use crate::access::merge_unit;
+use crate::access::put;
+use crate::check::Checked;
+use crate::check::check_width;
+use crate::check::refusal_of;
 use crate::whole::UnitWritten;
-use types::refusal::Outcome;
 use types::refusal::Refusal;
 
 // What is held after an access; or that there is none left.
@@ -73,34 +72,16 @@ fn access_at(op: FieldOp, width: u64, k: u64, size: usize) -> Access
     Access::Store(u)
 }
 
-fn unit_of(a: Access) -> u64
-    ensures { λ r. ⌜ r ≡ unitOf a ⌝ }
-{
-    match a {
-        Access::Load(u) => u,
-        Access::Store(u) => u,
-    }
-}
-
-fn is_store(a: Access) -> bool
-    ensures { λ r. ⌜ r ≡ isStore a ⌝ }
-{
-    match a {
-        Access::Load(_) => false,
-        Access::Store(_) => true,
-    }
-}
-
 // How many loads and stores the operation makes on a region of size bytes.
 pub fn count_accesses(op: FieldOp, size: u64) -> UnitWritten
     ensures { λ r. ⌜ r ≡ count op size ⌝ }
 {
     let field = op.field;
-    let checked = check_field(field, op.write, size);
-    if let Outcome::Refused(r) = checked {
-        return UnitWritten::Refused(r);
-    }
-    UnitWritten::Count(total(op, width(op), size as usize))
+    let checked = check_width(field, op.write, size);
+    let Checked::Width(width) = checked else {
+        return UnitWritten::Refused(refusal_of(checked));
+    };
+    UnitWritten::Count(total(op, width, size as usize))
 }
 
 // Makes access made of the operation, counted from 0, with what the loads before it hold.
@@ -108,18 +89,20 @@ pub fn next_access(op: FieldOp, made: u64, held: u64, region: &mut [u8]) -> Acce
     ensures { λ r. ⌜ stepped r (now (region .exit)) ≡ nextAccess (now (region .entry)) op made held ⌝ }
 {
     let field = op.field;
-    let checked = check_field(field, op.write, region.len() as u64);
-    if let Outcome::Refused(r) = checked {
-        return Accessed::Refused(r);
-    }
-    let width = width(op);
+    let checked = check_width(field, op.write, region.len() as u64);
+    let Checked::Width(width) = checked else {
+        return Accessed::Refused(refusal_of(checked));
+    };
     if total(op, width, region.len()) <= made {
         return Accessed::Over;
     }
     let a = access_at(op, width, made, region.len());
-    if !op.write {
-        return Accessed::Held(load(op, width, unit_of(a), region, held));
+    match a {
+        Access::Load(u) => Accessed::Held(load(op, width, u, region, held)),
+        Access::Store(u) => {
+            let x = merge_unit(op, width, u, held, region.len());
+            put(width, u, region, x);
+            Accessed::Held(0)
+        }
     }
-    let ran = run(op, width, unit_of(a), is_store(a), 1, region, held);
-    Accessed::Held(ran.held)
 }

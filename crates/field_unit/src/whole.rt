@@ -11,10 +11,10 @@ use crate::access::FieldOp;
 use crate::access::fetch;
 use crate::access::first_unit;
 use crate::access::last_unit;
-use crate::access::width;
-use crate::check::check_field;
+use crate::check::Checked;
+use crate::check::check_width;
+use crate::check::refusal_of;
 use crate::run::run;
-use types::refusal::Outcome;
 use types::refusal::Refusal;
 use types::value::FieldUnit;
 
@@ -60,16 +60,15 @@ fn read_units(op: FieldOp, width: u64, region: &[u8]) -> u64
 pub fn read_field(region: &[u8], field: FieldUnit) -> UnitRead
     ensures { λ r. ⌜ r ≡ readField (now (region .entry)) field ⌝ }
 {
-    let checked = check_field(field, false, region.len() as u64);
-    if let Outcome::Refused(r) = checked {
-        return UnitRead::Refused(r);
-    }
+    let checked = check_width(field, false, region.len() as u64);
+    let Checked::Width(width) = checked else {
+        return UnitRead::Refused(refusal_of(checked));
+    };
     let op = FieldOp {
         write: false,
         field,
         value: 0,
     };
-    let width = width(op);
     let count = last_unit(op, width, region.len()) - first_unit(op, width, region.len()) + 1;
     UnitRead::Value {
         value: read_units(op, width, region),
@@ -81,17 +80,14 @@ pub fn read_field(region: &[u8], field: FieldUnit) -> UnitRead
 pub fn write_field(region: &mut [u8], field: FieldUnit, value: u64) -> UnitWritten
     ensures { λ r. ⌜ wrote r (now (region .exit)) ≡ writeField (now (region .entry)) field value ⌝ }
 {
-    let checked = check_field(field, true, region.len() as u64);
-    if let Outcome::Refused(r) = checked {
-        return UnitWritten::Refused(r);
-    }
+    let checked = check_width(field, true, region.len() as u64);
+    let Checked::Width(width) = checked else {
+        return UnitWritten::Refused(refusal_of(checked));
+    };
     let op = FieldOp {
         write: true,
         field,
         value,
     };
-    let width = width(op);
-    let first = first_unit(op, width, region.len());
-    let ran = run(op, width, first, false, 11, region, 0);
-    UnitWritten::Count(ran.count)
+    UnitWritten::Count(run(op, width, region))
 }

@@ -27,7 +27,7 @@ use Rattle.link.specs.Fields.{spaceOf, spaceNumber}
 use Rattle.link.specs.Tables.{truthOf, opOf, lengthSaid, taskOf, noTask, hostTaskAt, tableOf, numbersOfTask, changed, freshNumbers, startedCall, steppedCall, stepTook, NewSays, StartSays, StepSays, DamagedIsMalformed}
 use Rattle.link.specs.declared.tables.HostTask.{HostTask}
 use Rattle.link.specs.declared.tables.HostTable.{HostTable}
-use Rattle.link.proofs.Hosted.{startBy, start-is, stepBy, step-is}
+use Rattle.link.proofs.Hosted.{startBy, start-is, stepBy, step-is, task-there, took-after}
 
 abbrev newBy : ℕ → Outcome → Made
 newBy n o = judged o (record { table = fresh n; answer = O.Done }) (λ r. record { table = fresh 0; answer = O.Refused r })
@@ -94,14 +94,6 @@ module _ (h : HostTable) (len : length (h .tasks) ≡ 4) (i : ℕ) (small : i < 
       let says : taskOf (numbersOfTask (taskAt (withTask (tableOf h) g i k) i)) ≡ k = ap (λ (x : Task). taskOf (numbersOfTask x)) this ∙ e in
       ap (λ (l : List Task). record { size = h .size; holder = g; tasks = l }) (four (h .tasks) len i small _ k says)
 
--- the task that the numbers say
-task-there : (h : HostTable) (i : ℕ) → i < 4 → taskAt (tableOf h) i ≡ taskOf (hostTaskAt h i)
-task-there h zero q = refl
-task-there h (suc zero) q = refl
-task-there h (suc (suc zero)) q = refl
-task-there h (suc (suc (suc zero))) q = refl
-task-there h (suc (suc (suc (suc i)))) q = absurd (omega (arith, q))
-
 -- ---- a new table, start, step
 
 new-by : (n : ℕ) (o : Outcome) → tableOf (freshNumbers (newBy n o .table .size)) ≡ newBy n o .table
@@ -123,11 +115,6 @@ pub start-says : StartSays
 start-says h len s i write space flags offset size value =
     let o = opOf write space flags offset size value in
     rw (start-is (tableOf h) s i o) (start-by h len s i o space refl (firstOf (startChecks (tableOf h) s i o)) refl)
-
-took-after : (l w : Bool) (x : ℕ) → stepTook (answerAfter l w x) ≡ true
-took-after true true x = refl
-took-after true false x = refl
-took-after false w x = refl
 
 after-back : (l : Bool) (k : Task) (x n : ℕ) → k .op .field .space ≡ spaceOf n → taskOf (numbersOfTask (taskAfter l k x)) ≡ taskAfter l k x
 unfolding spaceOf

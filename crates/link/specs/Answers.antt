@@ -1,11 +1,8 @@
 -- Document 01, "Refusal numbers": "Every refusal returns its number alone (1 adds the present and wanted types; 3, 4, 5 the type met)".
 -- What a call answers, as the numbers that a host takes. Types go by ACPI's numbers, 0 where there is none.
 -- Assumes nothing.
-use Prim.Native.Nat.{ℕ, _+_, min}
-use mathlib.Core.Path.{_≡_}
+use Prim.Native.Nat.{ℕ, _+_, _*_, _/_, _%_}
 use mathlib.Core.Bool.{cond}
-use mathlib.Core.List.{List}
-use lib.ListN.{length, take, drop}
 use Rattle.types.specs.Refusals.{numberOf, typesOf}
 use Rattle.types.specs.Values.{typeNumberOf}
 use Rattle.types.specs.declared.refusal.Refusal.{Refusal}
@@ -15,14 +12,12 @@ use Rattle.types.specs.declared.refusal.Types.{Types}
 use Rattle.types.specs.declared.refusal.Types.the-variants as Carried
 use Rattle.types.specs.declared.value.AmlType.{AmlType}
 use Rattle.types.specs.declared.value.AmlType.the-variants as T
-use Rattle.types.specs.declared.value.AmlValue.{AmlValue}
 use Rattle.buffer_field.specs.declared.FieldRead.{FieldRead}
 use Rattle.buffer_field.specs.declared.FieldRead.the-variants as F
 use Rattle.field_unit.specs.declared.whole.UnitRead.{UnitRead}
 use Rattle.field_unit.specs.declared.whole.UnitRead.the-variants as UR
 use Rattle.field_unit.specs.declared.whole.UnitWritten.{UnitWritten}
 use Rattle.field_unit.specs.declared.whole.UnitWritten.the-variants as UW
-use Rattle.value.specs.Conversions.{asInteger}
 use Rattle.value.specs.declared.convert.IntegerAnswer.{IntegerAnswer}
 use Rattle.value.specs.declared.convert.IntegerAnswer.the-variants as IA
 use Rattle.value.specs.declared.convert.BoolAnswer.{BoolAnswer}
@@ -34,11 +29,12 @@ use Rattle.value.specs.declared.convert.TypeAnswer.the-variants as TA
 use Rattle.value.specs.declared.status.StatusObject.{StatusObject}
 use Rattle.value.specs.declared.status.StatusAnswer.{StatusAnswer}
 use Rattle.value.specs.declared.status.StatusAnswer.the-variants as SA
-use Rattle.expression.specs.Mid.{mid, midPart}
 use Rattle.expression.specs.declared.compare.CompareAnswer.{CompareAnswer}
 use Rattle.expression.specs.declared.compare.CompareAnswer.the-variants as CA
 use Rattle.expression.specs.declared.concat.ConcatAnswer.{ConcatAnswer}
 use Rattle.expression.specs.declared.concat.ConcatAnswer.the-variants as JA
+use Rattle.expression.specs.declared.mid.Place.{Place}
+use Rattle.expression.specs.declared.mid.Place.the-variants as P
 use Rattle.link.specs.declared.answer.Answer.{Answer}
 
 -- nothing was refused: a value of this kind, after so many loads and stores
@@ -59,6 +55,14 @@ wantedOf (Carried.Conversion a b) = typeNumberOf b
 
 unfoldable pub refusedBy : Refusal → Answer
 refusedBy r = record { status = numberOf r; present = presentOf (typesOf r); wanted = wantedOf (typesOf r); kind = 0; count = 0; value = 0 }
+
+-- the same numbers in one: the refusal's number, the present type, the wanted type, a byte each
+unfoldable pub wordOf : Refusal → ℕ
+wordOf r = numberOf r + 256 * presentOf (typesOf r) + 65536 * wantedOf (typesOf r)
+
+-- the answer that has a word's bytes
+unfoldable pub ofWord : ℕ → Answer
+ofWord w = record { status = w % 256; present = w / 256 % 256; wanted = w / 65536 % 256; kind = 0; count = 0; value = 0 }
 
 -- the host named a kind that is none: no call of the layer is made, so no number of document 01 is given
 unfoldable pub noSuchKind : Answer
@@ -116,20 +120,13 @@ concatAnswer (JA.Buffer n) = accepted (typeNumberOf T.Buffer) 0 n
 concatAnswer (JA.Refused r) = refusedBy r
 
 -- Mid: how many bytes the part has, and where in the source it begins
-unfoldable pub partAnswer : ℕ → Outcome → ℕ → ℕ → Answer
-partAnswer kind O.Done count at = accepted kind count at
-partAnswer kind (O.Refused r) count at = refusedBy r
+unfoldable pub placeAnswer : ℕ → Place → Answer
+placeAnswer kind (P.At at count) = accepted kind count at
+placeAnswer kind (P.Refused r) = refusedBy r
 
--- at its index, or at the end
-abbrev pub placeOf : IntegerAnswer → ℕ → ℕ
-placeOf (IA.Integer x) size = min x size
-placeOf (IA.Refused r) size = 0
-
--- the part that such an answer says is Mid's
-abbrev pub PartIsThePart : Type 0
-PartIsThePart =
-    (v : AmlValue) (s : List ℕ) (i : AmlValue) (is : List ℕ) (n : AmlValue) (ns : List ℕ)
-    → take (length (midPart (mid v s i is n ns))) (drop (placeOf (asInteger i is) (length s)) s) ≡ midPart (mid v s i is n ns)
+abbrev pub placeCount : Place → ℕ
+placeCount (P.At at count) = count
+placeCount (P.Refused r) = 0
 
 -- ---- fields
 

@@ -2,11 +2,12 @@
 ghost use mathlib.Core.Path.{_≡_};
 ghost use mathlib.Core.Bool.{cond};
 ghost use Prim.Native.Nat.{_≤_};
-ghost use Rattle.link.specs.Answers.{refusedBy, noSuchKind, readAnswer, outcomeAnswer, unitReadAnswer, unitWrittenAnswer, readCount, writtenCount};
-ghost use Rattle.link.specs.Answers.{kindAnswer, integerAnswer, boolAnswer, bytesAnswer, typeAnswer, statusNumber, statusAnswer, compareAnswer, concatAnswer, partAnswer};
+ghost use Rattle.link.specs.Answers.{presentOf, wantedOf, wordOf, ofWord, noSuchKind, readAnswer, outcomeAnswer, unitReadAnswer, unitWrittenAnswer, readCount, writtenCount};
+ghost use Rattle.link.specs.Answers.{kindAnswer, integerAnswer, boolAnswer, bytesAnswer, typeAnswer, statusNumber, statusAnswer, compareAnswer, concatAnswer, placeAnswer, placeCount};
 use buffer_field::FieldRead;
 use expression::compare::CompareAnswer;
 use expression::concat::ConcatAnswer;
+use expression::mid::Place;
 use field_unit::whole::UnitRead;
 use field_unit::whole::UnitWritten;
 use types::refusal::Outcome;
@@ -63,20 +64,44 @@ fn carrying(status: u8, present: u8, wanted: u8) -> Answer
     }
 }
 
-pub(crate) fn refused(r: Refusal) -> Answer
-    ensures { λ a. ⌜ a ≡ refusedBy r ⌝ }
+// The type met, or the present one.
+fn present_of(types: Types) -> u8
+    ensures { λ n. ⌜ n ≡ presentOf types ⌝ }
 {
-    let status = number(r);
-    let types = types_of(r);
     match types {
-        Types::Nothing => carrying(status, 0, 0),
-        Types::Met(met) => carrying(status, type_number(met), 0),
-        Types::Conversion { current, target } => carrying(
-            status,
-            type_number(current),
-            type_number(target),
-        ),
+        Types::Nothing => 0,
+        Types::Met(met) => type_number(met),
+        Types::Conversion { current, target: _ } => type_number(current),
     }
+}
+
+fn wanted_of(types: Types) -> u8
+    ensures { λ n. ⌜ n ≡ wantedOf types ⌝ }
+{
+    match types {
+        Types::Nothing => 0,
+        Types::Met(_) => 0,
+        Types::Conversion { current: _, target } => type_number(target),
+    }
+}
+
+// A refusal's number and its two types, a byte each: a word stays in a register where an answer would go through memory.
+pub(crate) fn word_of(r: Refusal) -> u32
+    ensures { λ w. ⌜ w ≡ wordOf r ⌝ }
+{
+    let types = types_of(r);
+    number(r) as u32 + 256 * present_of(types) as u32 + 65536 * wanted_of(types) as u32
+}
+
+// The answer of such a word.
+pub(crate) fn refused(word: u32) -> Answer
+    ensures { λ a. ⌜ a ≡ ofWord word ⌝ }
+{
+    carrying(
+        (word % 256) as u8,
+        (word / 256 % 256) as u8,
+        (word / 65536 % 256) as u8,
+    )
 }
 
 pub(crate) fn no_such_kind() -> Answer
@@ -96,7 +121,7 @@ pub(crate) fn integer_answer(r: IntegerAnswer) -> Answer
 {
     match r {
         IntegerAnswer::Integer(n) => accepted(1, 0, n),
-        IntegerAnswer::Refused(why) => refused(why),
+        IntegerAnswer::Refused(why) => refused(word_of(why)),
     }
 }
 
@@ -112,7 +137,7 @@ pub(crate) fn bool_answer(r: BoolAnswer) -> Answer
 {
     match r {
         BoolAnswer::Bool(b) => accepted(17, 0, where_set(b, 1)),
-        BoolAnswer::Refused(why) => refused(why),
+        BoolAnswer::Refused(why) => refused(word_of(why)),
     }
 }
 
@@ -122,7 +147,7 @@ pub(crate) fn bytes_answer(kind: u8, r: LengthAnswer) -> Answer
 {
     match r {
         LengthAnswer::Length(n) => accepted(kind, 0, n as u64),
-        LengthAnswer::Refused(why) => refused(why),
+        LengthAnswer::Refused(why) => refused(word_of(why)),
     }
 }
 
@@ -133,7 +158,7 @@ pub(crate) fn type_answer(r: TypeAnswer) -> Answer
         TypeAnswer::Same => accepted(0, 0, 0),
         TypeAnswer::Integer(n) => accepted(1, 0, n),
         TypeAnswer::Buffer(n) => accepted(3, 0, n as u64),
-        TypeAnswer::Refused(why) => refused(why),
+        TypeAnswer::Refused(why) => refused(word_of(why)),
     }
 }
 
@@ -150,7 +175,7 @@ pub(crate) fn status_answer(r: StatusAnswer) -> Answer
 {
     match r {
         StatusAnswer::Status(s) => accepted(1, 0, status_number(s)),
-        StatusAnswer::Refused(why) => refused(why),
+        StatusAnswer::Refused(why) => refused(word_of(why)),
     }
 }
 
@@ -162,7 +187,7 @@ pub(crate) fn compare_answer(r: CompareAnswer) -> Answer
         CompareAnswer::Less => accepted(1, 0, 0),
         CompareAnswer::Equal => accepted(1, 0, 1),
         CompareAnswer::Greater => accepted(1, 0, 2),
-        CompareAnswer::Refused(why) => refused(why),
+        CompareAnswer::Refused(why) => refused(word_of(why)),
     }
 }
 
@@ -172,18 +197,18 @@ pub(crate) fn concat_answer(r: ConcatAnswer) -> Answer
     match r {
         ConcatAnswer::String(n) => accepted(2, 0, n as u64),
         ConcatAnswer::Buffer(n) => accepted(3, 0, n as u64),
-        ConcatAnswer::Refused(why) => refused(why),
+        ConcatAnswer::Refused(why) => refused(word_of(why)),
     }
 }
 
 // A part of so many bytes at a place of the source.
-pub(crate) fn part_answer(kind: u8, r: Outcome, count: usize, at: u64) -> Answer
-    requires { ⌜ count ≤ 65536 ⌝ }
-    ensures { λ a. ⌜ a ≡ partAnswer kind r count at ⌝ }
+pub(crate) fn place_answer(kind: u8, r: Place) -> Answer
+    requires { ⌜ placeCount r ≤ 65536 ⌝ }
+    ensures { λ a. ⌜ a ≡ placeAnswer kind r ⌝ }
 {
     match r {
-        Outcome::Done => accepted(kind, count as u32, at),
-        Outcome::Refused(why) => refused(why),
+        Place::At(at, count) => accepted(kind, count as u32, at),
+        Place::Refused(why) => refused(word_of(why)),
     }
 }
 
@@ -193,7 +218,7 @@ pub(crate) fn read_answer(r: FieldRead) -> Answer
     match r {
         FieldRead::Integer(x) => accepted(1, 0, x),
         FieldRead::Buffer(n) => accepted(3, 0, n as u64),
-        FieldRead::Refused(why) => refused(why),
+        FieldRead::Refused(why) => refused(word_of(why)),
     }
 }
 
@@ -202,7 +227,7 @@ pub(crate) fn outcome_answer(r: Outcome) -> Answer
 {
     match r {
         Outcome::Done => accepted(0, 0, 0),
-        Outcome::Refused(why) => refused(why),
+        Outcome::Refused(why) => refused(word_of(why)),
     }
 }
 
@@ -212,7 +237,7 @@ pub(crate) fn unit_read_answer(r: UnitRead) -> Answer
 {
     match r {
         UnitRead::Value { value, count } => accepted(1, count as u32, value),
-        UnitRead::Refused(why) => refused(why),
+        UnitRead::Refused(why) => refused(word_of(why)),
     }
 }
 
@@ -222,6 +247,6 @@ pub(crate) fn unit_written_answer(r: UnitWritten) -> Answer
 {
     match r {
         UnitWritten::Count(count) => accepted(0, count as u32, 0),
-        UnitWritten::Refused(why) => refused(why),
+        UnitWritten::Refused(why) => refused(word_of(why)),
     }
 }

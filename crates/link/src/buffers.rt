@@ -9,9 +9,9 @@ use crate::answer::Answer;
 use crate::answer::no_such_kind;
 use crate::answer::outcome_answer;
 use crate::answer::read_answer;
+use crate::given::Given;
 use crate::given::HostValue;
-use crate::given::is_kind;
-use crate::given::value_of;
+use crate::given::given_of;
 use buffer_field::read_buffer_field;
 use buffer_field::write_buffer_field;
 use buffer_field::write_buffer_field_bytes;
@@ -68,10 +68,10 @@ pub extern "C" fn aml_write_buffer_field(
 ) -> Answer
     ensures { λ a. ⌜ (a ≡ withValue given (λ v. outcomeAnswer (write (now (buffer .entry)) offset length v (now (bytes .entry)) .answer)) noSuchKind) × (now (buffer .exit) ≡ withValue given (λ v. write (now (buffer .entry)) offset length v (now (bytes .entry)) .buffer) (now (buffer .entry))) ⌝ }
 {
-    if !is_kind(given.kind) {
+    let g = given_of(given);
+    let Given::Value(v) = g else {
         return no_such_kind();
-    }
-    let v = value_of(given);
+    };
     outcome_answer(write_buffer_field(buffer, offset, length, v, bytes))
 }
 

@@ -15,11 +15,11 @@ use crate::answer::no_such_kind;
 use crate::answer::status_answer;
 use crate::answer::status_number;
 use crate::answer::type_answer;
+use crate::given::Given;
 use crate::given::HostValue;
-use crate::given::is_kind;
+use crate::given::given_of;
 use crate::given::is_type;
 use crate::given::type_named;
-use crate::given::value_of;
 use types::value::type_of;
 use value::convert::as_bool;
 use value::convert::as_buffer;
@@ -35,10 +35,10 @@ use value::status::default_status;
 pub extern "C" fn aml_type_of(given: HostValue) -> Answer
     ensures { λ a. ⌜ a ≡ withValue given (λ v. kindAnswer (typeOf v)) noSuchKind ⌝ }
 {
-    if !is_kind(given.kind) {
+    let g = given_of(given);
+    let Given::Value(v) = g else {
         return no_such_kind();
-    }
-    let v = value_of(given);
+    };
     kind_answer(type_of(v))
 }
 
@@ -46,10 +46,10 @@ pub extern "C" fn aml_type_of(given: HostValue) -> Answer
 pub extern "C" fn aml_as_integer(given: HostValue, bytes: &[u8]) -> Answer
     ensures { λ a. ⌜ a ≡ withValue given (λ v. integerAnswer (asInteger v (now (bytes .entry)))) noSuchKind ⌝ }
 {
-    if !is_kind(given.kind) {
+    let g = given_of(given);
+    let Given::Value(v) = g else {
         return no_such_kind();
-    }
-    let v = value_of(given);
+    };
     integer_answer(as_integer(v, bytes))
 }
 
@@ -57,10 +57,10 @@ pub extern "C" fn aml_as_integer(given: HostValue, bytes: &[u8]) -> Answer
 pub extern "C" fn aml_as_bool(given: HostValue, bytes: &[u8]) -> Answer
     ensures { λ a. ⌜ a ≡ withValue given (λ v. boolAnswer (asBool v (now (bytes .entry)))) noSuchKind ⌝ }
 {
-    if !is_kind(given.kind) {
+    let g = given_of(given);
+    let Given::Value(v) = g else {
         return no_such_kind();
-    }
-    let v = value_of(given);
+    };
     bool_answer(as_bool(v, bytes))
 }
 
@@ -69,10 +69,10 @@ pub extern "C" fn aml_as_bool(given: HostValue, bytes: &[u8]) -> Answer
 pub extern "C" fn aml_as_buffer(given: HostValue, bytes: &[u8], out: &mut [u8]) -> Answer
     ensures { λ a. ⌜ (a ≡ withValue given (λ v. bytesAnswer 3 (asBuffer v (now (bytes .entry)) (now (out .entry)) .answer)) noSuchKind) × (now (out .exit) ≡ withValue given (λ v. asBuffer v (now (bytes .entry)) (now (out .entry)) .out) (now (out .entry))) ⌝ }
 {
-    if !is_kind(given.kind) {
+    let g = given_of(given);
+    let Given::Value(v) = g else {
         return no_such_kind();
-    }
-    let v = value_of(given);
+    };
     bytes_answer(3, as_buffer(v, bytes, out))
 }
 
@@ -81,10 +81,10 @@ pub extern "C" fn aml_as_buffer(given: HostValue, bytes: &[u8], out: &mut [u8]) 
 pub extern "C" fn aml_as_string(given: HostValue, bytes: &[u8], out: &mut [u8]) -> Answer
     ensures { λ a. ⌜ (a ≡ withValue given (λ v. bytesAnswer 2 (asString v (now (bytes .entry)) (now (out .entry)) .answer)) noSuchKind) × (now (out .exit) ≡ withValue given (λ v. asString v (now (bytes .entry)) (now (out .entry)) .out) (now (out .entry))) ⌝ }
 {
-    if !is_kind(given.kind) {
+    let g = given_of(given);
+    let Given::Value(v) = g else {
         return no_such_kind();
-    }
-    let v = value_of(given);
+    };
     bytes_answer(2, as_string(v, bytes, out))
 }
 
@@ -93,13 +93,13 @@ pub extern "C" fn aml_as_string(given: HostValue, bytes: &[u8], out: &mut [u8]) 
 pub extern "C" fn aml_as_type(given: HostValue, bytes: &[u8], wanted: u8, out: &mut [u8]) -> Answer
     ensures { λ a. ⌜ (a ≡ withType given wanted (λ v t. typeAnswer (asType v (now (bytes .entry)) t (now (out .entry)) .answer)) noSuchKind) × (now (out .exit) ≡ withType given wanted (λ v t. asType v (now (bytes .entry)) t (now (out .entry)) .out) (now (out .entry))) ⌝ }
 {
-    if !is_kind(given.kind) {
+    let g = given_of(given);
+    let Given::Value(v) = g else {
         return no_such_kind();
-    }
+    };
     if !is_type(wanted) {
         return no_such_kind();
     }
-    let v = value_of(given);
     let t = type_named(wanted);
     type_answer(as_type(v, bytes, t, out))
 }
@@ -109,10 +109,10 @@ pub extern "C" fn aml_as_type(given: HostValue, bytes: &[u8], wanted: u8, out: &
 pub extern "C" fn aml_to_integer(given: HostValue, bytes: &[u8]) -> Answer
     ensures { λ a. ⌜ a ≡ withValue given (λ v. integerAnswer (defToInteger v (now (bytes .entry)))) noSuchKind ⌝ }
 {
-    if !is_kind(given.kind) {
+    let g = given_of(given);
+    let Given::Value(v) = g else {
         return no_such_kind();
-    }
-    let v = value_of(given);
+    };
     integer_answer(to_integer(v, bytes))
 }
 
@@ -121,10 +121,10 @@ pub extern "C" fn aml_to_integer(given: HostValue, bytes: &[u8]) -> Answer
 pub extern "C" fn aml_as_status(given: HostValue, bytes: &[u8]) -> Answer
     ensures { λ a. ⌜ a ≡ withValue given (λ v. statusAnswer (asStatus v (now (bytes .entry)))) noSuchKind ⌝ }
 {
-    if !is_kind(given.kind) {
+    let g = given_of(given);
+    let Given::Value(v) = g else {
         return no_such_kind();
-    }
-    let v = value_of(given);
+    };
     status_answer(as_status(v, bytes))
 }
 

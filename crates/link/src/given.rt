@@ -1,8 +1,7 @@
 // A host's numbers as values, types and fields. Kinds go by ACPI's numbers (ObjectType; 6.4, 19.6.97) and 17 for a Boolean, which has none of its own.
 ghost use mathlib.Core.Path.{_≡_};
-ghost use mathlib.Core.Bool.{_&&_};
 ghost use Rattle.link.specs.Fields.{spaceOf, fieldOf, spaceNumber};
-ghost use Rattle.link.specs.Values.{isType, isKind, valueOf, typeNamed};
+ghost use Rattle.link.specs.Values.{isType, withValue, typeNamed};
 use types::flags::FieldFlags;
 use types::value::AmlType;
 use types::value::AmlValue;
@@ -81,53 +80,44 @@ pub(crate) fn is_type(number: u8) -> bool
     number <= 14
 }
 
-// Is it the number of a kind?
-pub(crate) fn is_kind(number: u8) -> bool
-    ensures { λ r. ⌜ r ≡ isKind number ⌝ }
-{
-    if number == 17 {
-        return true;
-    }
-    is_type(number)
+pub(crate) enum Given {
+    Value(AmlValue),
+    NoKind,
 }
 
-pub(crate) fn are_kinds(left: u8, right: u8) -> bool
-    ensures { λ r. ⌜ r ≡ (isKind left && isKind right) ⌝ }
-{
-    if is_kind(left) {
-        return is_kind(right);
-    }
-    false
-}
-
-// Asked of kinds alone; what is none gives what nobody looks at.
-pub(crate) fn value_of(value: HostValue) -> AmlValue
-    ensures { λ r. ⌜ r ≡ valueOf value ⌝ }
+// One look at the kind.
+pub(crate) fn given_of(value: HostValue) -> Given
+    ensures { λ r. ⌜ r ≡ withValue value Given.Value Given.NoKind ⌝ }
 {
     let kind = value.kind;
     match kind {
-        0 => AmlValue::Package,
-        1 => AmlValue::Integer(value.number),
-        2 => AmlValue::String,
-        3 => AmlValue::Buffer,
-        4 => AmlValue::Package,
-        5 => AmlValue::Field(field_of(value.space, value.flags, value.offset, value.length)),
-        6 => AmlValue::Device,
-        7 => AmlValue::Package,
-        8 => AmlValue::Method,
-        9 => AmlValue::Mutex,
-        10 => AmlValue::OpRegion,
-        11 => AmlValue::PowerResource,
-        12 => AmlValue::Processor,
-        13 => AmlValue::ThermalZone,
-        14 => AmlValue::BufferField {
+        0 => Given::NoKind,
+        1 => Given::Value(AmlValue::Integer(value.number)),
+        2 => Given::Value(AmlValue::String),
+        3 => Given::Value(AmlValue::Buffer),
+        4 => Given::Value(AmlValue::Package),
+        5 => Given::Value(AmlValue::Field(field_of(
+            value.space,
+            value.flags,
+            value.offset,
+            value.length,
+        ))),
+        6 => Given::Value(AmlValue::Device),
+        7 => Given::NoKind,
+        8 => Given::Value(AmlValue::Method),
+        9 => Given::Value(AmlValue::Mutex),
+        10 => Given::Value(AmlValue::OpRegion),
+        11 => Given::Value(AmlValue::PowerResource),
+        12 => Given::Value(AmlValue::Processor),
+        13 => Given::Value(AmlValue::ThermalZone),
+        14 => Given::Value(AmlValue::BufferField {
             offset: value.offset,
             length: value.length,
-        },
-        15 => AmlValue::Package,
-        16 => AmlValue::Package,
-        17 => AmlValue::Boolean(value.number != 0),
-        _ => AmlValue::Package,
+        }),
+        15 => Given::NoKind,
+        16 => Given::NoKind,
+        17 => Given::Value(AmlValue::Boolean(value.number != 0)),
+        _ => Given::NoKind,
     }
 }
 

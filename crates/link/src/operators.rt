@@ -1,14 +1,11 @@
 // The operators. Bytes are lent beside each operand.
 ghost use mathlib.Core.Path.{_≡_};
 ghost use Rattle.expression.specs.Numbers as E;
-ghost use Prim.Native.Nat.{min};
-ghost use lib.ListN;
 ghost use Rattle.expression.specs.Compare.{compare};
-ghost use Rattle.expression.specs.Mid.{mid, midOutcome, midPart};
-ghost use Rattle.value.specs.Conversions.{asInteger};
+ghost use Rattle.expression.specs.Mid.{midPlace};
 ghost use Rattle.expression.specs.Concat.{concat, concatRes};
 ghost use Rattle.expression.specs.Build.{buildBuffer};
-ghost use Rattle.link.specs.Answers.{noSuchKind, integerAnswer, bytesAnswer, compareAnswer, concatAnswer, partAnswer, placeOf};
+ghost use Rattle.link.specs.Answers.{noSuchKind, integerAnswer, bytesAnswer, compareAnswer, concatAnswer, placeAnswer};
 ghost use Rattle.link.specs.Values.{withValue, withBoth};
 use crate::answer::Answer;
 use crate::answer::bytes_answer;
@@ -16,25 +13,21 @@ use crate::answer::compare_answer;
 use crate::answer::concat_answer;
 use crate::answer::integer_answer;
 use crate::answer::no_such_kind;
-use crate::answer::part_answer;
+use crate::answer::place_answer;
+use crate::given::Given;
 use crate::given::HostValue;
-use crate::given::are_kinds;
-use crate::given::is_kind;
-use crate::given::value_of;
+use crate::given::given_of;
 use expression::buffer::def_buffer;
 use expression::compare::compare;
 use expression::concat::def_concat;
 use expression::concat::def_concat_res;
-use expression::mid::def_mid;
-use expression::mid::def_mid_part;
+use expression::mid::def_mid_place;
 use expression::number::def_add;
 use expression::number::def_and;
 use expression::number::def_decrement;
 use expression::number::def_increment;
 use expression::number::def_shift_left;
 use expression::number::def_shift_right;
-use value::convert::IntegerAnswer;
-use value::convert::as_integer;
 
 // Add.
 #[no_mangle]
@@ -46,11 +39,14 @@ pub extern "C" fn aml_add(
 ) -> Answer
     ensures { λ a. ⌜ a ≡ withBoth left right (λ l r. integerAnswer (E.binary E.add l (now («left_bytes» .entry)) r (now («right_bytes» .entry)))) noSuchKind ⌝ }
 {
-    if !are_kinds(left.kind, right.kind) {
+    let g = given_of(left);
+    let Given::Value(l) = g else {
         return no_such_kind();
-    }
-    let l = value_of(left);
-    let r = value_of(right);
+    };
+    let h = given_of(right);
+    let Given::Value(r) = h else {
+        return no_such_kind();
+    };
     integer_answer(def_add(l, left_bytes, r, right_bytes))
 }
 
@@ -64,11 +60,14 @@ pub extern "C" fn aml_and(
 ) -> Answer
     ensures { λ a. ⌜ a ≡ withBoth left right (λ l r. integerAnswer (E.binary E.and l (now («left_bytes» .entry)) r (now («right_bytes» .entry)))) noSuchKind ⌝ }
 {
-    if !are_kinds(left.kind, right.kind) {
+    let g = given_of(left);
+    let Given::Value(l) = g else {
         return no_such_kind();
-    }
-    let l = value_of(left);
-    let r = value_of(right);
+    };
+    let h = given_of(right);
+    let Given::Value(r) = h else {
+        return no_such_kind();
+    };
     integer_answer(def_and(l, left_bytes, r, right_bytes))
 }
 
@@ -82,11 +81,14 @@ pub extern "C" fn aml_shift_left(
 ) -> Answer
     ensures { λ a. ⌜ a ≡ withBoth left right (λ l r. integerAnswer (E.binary E.shiftLeft l (now («left_bytes» .entry)) r (now («right_bytes» .entry)))) noSuchKind ⌝ }
 {
-    if !are_kinds(left.kind, right.kind) {
+    let g = given_of(left);
+    let Given::Value(l) = g else {
         return no_such_kind();
-    }
-    let l = value_of(left);
-    let r = value_of(right);
+    };
+    let h = given_of(right);
+    let Given::Value(r) = h else {
+        return no_such_kind();
+    };
     integer_answer(def_shift_left(l, left_bytes, r, right_bytes))
 }
 
@@ -100,11 +102,14 @@ pub extern "C" fn aml_shift_right(
 ) -> Answer
     ensures { λ a. ⌜ a ≡ withBoth left right (λ l r. integerAnswer (E.binary E.shiftRight l (now («left_bytes» .entry)) r (now («right_bytes» .entry)))) noSuchKind ⌝ }
 {
-    if !are_kinds(left.kind, right.kind) {
+    let g = given_of(left);
+    let Given::Value(l) = g else {
         return no_such_kind();
-    }
-    let l = value_of(left);
-    let r = value_of(right);
+    };
+    let h = given_of(right);
+    let Given::Value(r) = h else {
+        return no_such_kind();
+    };
     integer_answer(def_shift_right(l, left_bytes, r, right_bytes))
 }
 
@@ -113,10 +118,10 @@ pub extern "C" fn aml_shift_right(
 pub extern "C" fn aml_increment(given: HostValue, bytes: &[u8]) -> Answer
     ensures { λ a. ⌜ a ≡ withValue given (λ v. integerAnswer (E.unary E.increment v (now (bytes .entry)))) noSuchKind ⌝ }
 {
-    if !is_kind(given.kind) {
+    let g = given_of(given);
+    let Given::Value(v) = g else {
         return no_such_kind();
-    }
-    let v = value_of(given);
+    };
     integer_answer(def_increment(v, bytes))
 }
 
@@ -125,10 +130,10 @@ pub extern "C" fn aml_increment(given: HostValue, bytes: &[u8]) -> Answer
 pub extern "C" fn aml_decrement(given: HostValue, bytes: &[u8]) -> Answer
     ensures { λ a. ⌜ a ≡ withValue given (λ v. integerAnswer (E.unary E.decrement v (now (bytes .entry)))) noSuchKind ⌝ }
 {
-    if !is_kind(given.kind) {
+    let g = given_of(given);
+    let Given::Value(v) = g else {
         return no_such_kind();
-    }
-    let v = value_of(given);
+    };
     integer_answer(def_decrement(v, bytes))
 }
 
@@ -142,11 +147,14 @@ pub extern "C" fn aml_compare(
 ) -> Answer
     ensures { λ a. ⌜ a ≡ withBoth left right (λ l r. compareAnswer (compare l (now («left_bytes» .entry)) r (now («right_bytes» .entry)))) noSuchKind ⌝ }
 {
-    if !are_kinds(left.kind, right.kind) {
+    let g = given_of(left);
+    let Given::Value(l) = g else {
         return no_such_kind();
-    }
-    let l = value_of(left);
-    let r = value_of(right);
+    };
+    let h = given_of(right);
+    let Given::Value(r) = h else {
+        return no_such_kind();
+    };
     compare_answer(compare(l, left_bytes, r, right_bytes))
 }
 
@@ -161,11 +169,14 @@ pub extern "C" fn aml_concat(
 ) -> Answer
     ensures { λ a. ⌜ (a ≡ withBoth left right (λ l r. concatAnswer (concat l (now («left_bytes» .entry)) r (now («right_bytes» .entry)) (now (out .entry)) .answer)) noSuchKind) × (now (out .exit) ≡ withBoth left right (λ l r. concat l (now («left_bytes» .entry)) r (now («right_bytes» .entry)) (now (out .entry)) .out) (now (out .entry))) ⌝ }
 {
-    if !are_kinds(left.kind, right.kind) {
+    let g = given_of(left);
+    let Given::Value(l) = g else {
         return no_such_kind();
-    }
-    let l = value_of(left);
-    let r = value_of(right);
+    };
+    let h = given_of(right);
+    let Given::Value(r) = h else {
+        return no_such_kind();
+    };
     concat_answer(def_concat(l, left_bytes, r, right_bytes, out))
 }
 
@@ -180,28 +191,15 @@ pub extern "C" fn aml_concat_res(
 ) -> Answer
     ensures { λ a. ⌜ (a ≡ withBoth left right (λ l r. bytesAnswer 3 (concatRes l (now («left_bytes» .entry)) r (now («right_bytes» .entry)) (now (out .entry)) .answer)) noSuchKind) × (now (out .exit) ≡ withBoth left right (λ l r. concatRes l (now («left_bytes» .entry)) r (now («right_bytes» .entry)) (now (out .entry)) .out) (now (out .entry))) ⌝ }
 {
-    if !are_kinds(left.kind, right.kind) {
+    let g = given_of(left);
+    let Given::Value(l) = g else {
         return no_such_kind();
-    }
-    let l = value_of(left);
-    let r = value_of(right);
+    };
+    let h = given_of(right);
+    let Given::Value(r) = h else {
+        return no_such_kind();
+    };
     bytes_answer(3, def_concat_res(l, left_bytes, r, right_bytes, out))
-}
-
-fn lesser(a: u64, b: u64) -> u64
-    ensures { λ r. ⌜ r ≡ min a b ⌝ }
-{
-    if a <= b { a } else { b }
-}
-
-// Where a part begins in a source of size bytes: at its index, or at the end.
-fn place(index: IntegerAnswer, size: usize) -> u64
-    ensures { λ r. ⌜ r ≡ placeOf index size ⌝ }
-{
-    match index {
-        IntegerAnswer::Integer(x) => lesser(x, size as u64),
-        IntegerAnswer::Refused(_) => 0,
-    }
 }
 
 // Mid. The part is the source's own bytes: the answer's count says how many, its value where they begin.
@@ -214,21 +212,22 @@ pub extern "C" fn aml_mid(
     length: HostValue,
     length_bytes: &[u8],
 ) -> Answer
-    ensures { λ a. ⌜ a ≡ withValue source (λ v. withBoth index length (λ i n. partAnswer (source .kind) (midOutcome (mid v (now («source_bytes» .entry)) i (now («index_bytes» .entry)) n (now («length_bytes» .entry)))) (lib.ListN.length (midPart (mid v (now («source_bytes» .entry)) i (now («index_bytes» .entry)) n (now («length_bytes» .entry))))) (placeOf (asInteger i (now («index_bytes» .entry))) (lib.ListN.length (now («source_bytes» .entry))))) noSuchKind) noSuchKind ⌝ }
+    ensures { λ a. ⌜ a ≡ withValue source (λ v. withBoth index length (λ i n. placeAnswer (source .kind) (midPlace v (now («source_bytes» .entry)) i (now («index_bytes» .entry)) n (now («length_bytes» .entry)))) noSuchKind) noSuchKind ⌝ }
 {
-    if !is_kind(source.kind) {
+    let g = given_of(source);
+    let Given::Value(v) = g else {
         return no_such_kind();
-    }
-    if !are_kinds(index.kind, length.kind) {
+    };
+    let h = given_of(index);
+    let Given::Value(i) = h else {
         return no_such_kind();
-    }
-    let v = value_of(source);
-    let i = value_of(index);
-    let n = value_of(length);
-    let outcome = def_mid(v, source_bytes, i, index_bytes, n, length_bytes);
-    let part = def_mid_part(v, source_bytes, i, index_bytes, n, length_bytes);
-    let at = place(as_integer(i, index_bytes), source_bytes.len());
-    part_answer(source.kind, outcome, part.len(), at)
+    };
+    let m = given_of(length);
+    let Given::Value(n) = m else {
+        return no_such_kind();
+    };
+    let placed = def_mid_place(v, source_bytes, i, index_bytes, n, length_bytes);
+    place_answer(source.kind, placed)
 }
 
 // Building a buffer of the size given, at the front of the output.
@@ -241,9 +240,9 @@ pub extern "C" fn aml_buffer(
 ) -> Answer
     ensures { λ a. ⌜ (a ≡ withValue given (λ v. bytesAnswer 3 (buildBuffer v (now (bytes .entry)) (now (initial .entry)) (now (out .entry)) .answer)) noSuchKind) × (now (out .exit) ≡ withValue given (λ v. buildBuffer v (now (bytes .entry)) (now (initial .entry)) (now (out .entry)) .out) (now (out .entry))) ⌝ }
 {
-    if !is_kind(given.kind) {
+    let g = given_of(given);
+    let Given::Value(v) = g else {
         return no_such_kind();
-    }
-    let v = value_of(given);
+    };
     bytes_answer(3, def_buffer(v, bytes, initial, out))
 }

@@ -11,10 +11,10 @@ use crate::answer::Answer;
 use crate::answer::no_such_kind;
 use crate::answer::unit_read_answer;
 use crate::answer::unit_written_answer;
+use crate::given::Given;
 use crate::given::HostValue;
 use crate::given::field_of;
-use crate::given::is_kind;
-use crate::given::value_of;
+use crate::given::given_of;
 use field_unit::whole::read_field;
 use field_unit::whole::write_field;
 use value::field::write_value;
@@ -62,10 +62,10 @@ pub extern "C" fn aml_write_value(
 ) -> Answer
     ensures { λ a. ⌜ (a ≡ withValue given (λ v. unitWrittenAnswer (writeValue (now (region .entry)) (fieldOf space flags offset length) v (now (bytes .entry)) .answer)) noSuchKind) × (now (region .exit) ≡ withValue given (λ v. writeValue (now (region .entry)) (fieldOf space flags offset length) v (now (bytes .entry)) .region) (now (region .entry))) ⌝ }
 {
-    if !is_kind(given.kind) {
+    let g = given_of(given);
+    let Given::Value(v) = g else {
         return no_such_kind();
-    }
-    let v = value_of(given);
+    };
     unit_written_answer(write_value(region, field_of(space, flags, offset, length), v, bytes))
 }
 
@@ -81,10 +81,10 @@ pub extern "C" fn aml_write_value_self(
 ) -> Answer
     ensures { λ a. ⌜ (a ≡ withValue given (λ v. unitWrittenAnswer (writeValue (now (region .entry)) (fieldOf space flags offset length) v (now (region .entry)) .answer)) noSuchKind) × (now (region .exit) ≡ withValue given (λ v. writeValue (now (region .entry)) (fieldOf space flags offset length) v (now (region .entry)) .region) (now (region .entry))) ⌝ }
 {
-    if !is_kind(given.kind) {
+    let g = given_of(given);
+    let Given::Value(v) = g else {
         return no_such_kind();
-    }
-    let v = value_of(given);
+    };
     unit_written_answer(write_value_self(region, field_of(space, flags, offset, length), v))
 }
 

@@ -1,7 +1,7 @@
 // The task table, as a struct of numbers that the host keeps: it goes in by value and comes back beside the answer. Any numbers are a table; a
 // damaged one is 31. Padding there is none, so two tables are equal where their bytes are.
 ghost use mathlib.Core.Path.{_≡_};
-ghost use mathlib.Core.Bool.{true, cond};
+ghost use mathlib.Core.Bool.{cond};
 ghost use Prim.Native.Nat.{_<_, _≤_};
 ghost use Rattle.task.specs.Tasks as T;
 ghost use Rattle.link.specs.Tables as L;
@@ -9,13 +9,19 @@ use crate::answer::Answer;
 use crate::answer::accepted;
 use crate::answer::outcome_answer;
 use crate::answer::refused;
+use crate::answer::word_of;
 use crate::given::field_of;
 use crate::given::space_number;
 use field_unit::access::FieldOp;
+use task::one::check_call;
+use task::one::start_task;
+use task::one::step_task;
 use task::table::StartAnswer;
 use task::table::StepAnswer;
 use task::table::Table;
 use task::table::Task;
+use task::well::malformed_by;
+use types::refusal::Outcome;
 
 // busy, write: 0 or 1. space, flags, offset, length: its field. value: what it writes. made: its loads and stores so far. held: what its loads gave.
 #[repr(C)]
@@ -88,20 +94,6 @@ fn task_at(table: HostTable, task: usize) -> Task
     task_of(k)
 }
 
-fn table_of(table: HostTable) -> Table
-    ensures { λ r. ⌜ r ≡ L.tableOf table ⌝ }
-{
-    let a = task_at(table, 0);
-    let b = task_at(table, 1);
-    let c = task_at(table, 2);
-    let d = task_at(table, 3);
-    Table {
-        size: table.size,
-        holder: table.holder,
-        tasks: [a, b, c, d],
-    }
-}
-
 fn busy_number(b: bool) -> u32
     ensures { λ r. ⌜ r ≡ cond b 1 0 ⌝ }
 {
@@ -134,18 +126,6 @@ fn numbers_of_task(k: Task) -> HostTask
     }
 }
 
-// The host's table with the holder and the task of another.
-fn changed(table: HostTable, task: usize, t: Table) -> HostTable
-    requires { ⌜ task < 4 ⌝ }
-    ensures { λ r. ⌜ r ≡ L.changed table task t ⌝ }
-{
-    let k = t.tasks[task];
-    let mut next = table;
-    next.holder = t.holder;
-    next.tasks[task] = numbers_of_task(k);
-    next
-}
-
 fn fresh_numbers(size: u64) -> HostTable
     ensures { λ r. ⌜ r ≡ L.freshNumbers size ⌝ }
 {
@@ -167,44 +147,13 @@ fn fresh_numbers(size: u64) -> HostTable
     }
 }
 
-// The host's table after a call: changed where it was accepted, and else as it was.
-fn table_after(took: bool, table: HostTable, task: usize, t: Table) -> HostTable
-    requires { ⌜ (took ≡ true → task < 4) ⌝ }
-    ensures { λ r. ⌜ r ≡ L.tableAfter took table task t ⌝ }
-{
-    if took {
-        return changed(table, task, t);
-    }
-    table
-}
-
-fn start_took(a: StartAnswer) -> bool
-    ensures { λ r. ⌜ r ≡ L.startTook a ⌝ }
-{
-    match a {
-        StartAnswer::Count(_) => true,
-        StartAnswer::Refused(_) => false,
-    }
-}
-
 fn start_answer(a: StartAnswer) -> Answer
     requires { ⌜ L.startCount a ≤ 11 ⌝ }
     ensures { λ r. ⌜ r ≡ L.startAnswer a ⌝ }
 {
     match a {
         StartAnswer::Count(n) => accepted(0, n as u32, 0),
-        StartAnswer::Refused(why) => refused(why),
-    }
-}
-
-fn step_took(a: StepAnswer) -> bool
-    ensures { λ r. ⌜ r ≡ L.stepTook a ⌝ }
-{
-    match a {
-        StepAnswer::More => true,
-        StepAnswer::Done => true,
-        StepAnswer::Value(_) => true,
-        StepAnswer::Refused(_) => false,
+        StartAnswer::Refused(why) => refused(word_of(why)),
     }
 }
 
@@ -215,7 +164,7 @@ fn step_answer(a: StepAnswer) -> Answer
         StepAnswer::More => accepted(0, 1, 0),
         StepAnswer::Done => accepted(0, 0, 0),
         StepAnswer::Value(x) => accepted(1, 0, x),
-        StepAnswer::Refused(why) => refused(why),
+        StepAnswer::Refused(why) => refused(word_of(why)),
     }
 }
 
@@ -237,7 +186,11 @@ pub extern "C" fn aml_new_table(size: u64) -> Called
 pub extern "C" fn aml_is_malformed(table: HostTable) -> bool
     ensures { λ r. ⌜ r ≡ T.malformed (L.tableOf table) ⌝ }
 {
-    table_of(table).is_malformed()
+    let a = task_at(table, 0);
+    let b = task_at(table, 1);
+    let c = task_at(table, 2);
+    let d = task_at(table, 3);
+    malformed_by(table.size, table.holder, a, b, c, d)
 }
 
 // Accepts a read (write is 0), or a write of a value, for the task. The answer's count says how many loads and stores it will make.
@@ -256,12 +209,34 @@ pub extern "C" fn aml_start(
     ensures { λ r. ⌜ r ≡ L.startCall table (now (region .entry)) task (L.opOf write space flags offset length value) ⌝ }
 {
     let op = op_of(write, space, flags, offset, length, value);
-    let started = table_of(table).start(region, task, op);
-    let answer = started.answer;
-    let after = started.table;
+    let malformed = aml_is_malformed(table);
+    let checked = check_call(malformed, table.size, region.len(), task);
+    if let Outcome::Refused(_) = checked {
+        return Called {
+            table,
+            answer: outcome_answer(checked),
+        };
+    }
+    let host = table.tasks[task];
+    let k = task_of(host);
+    let started = start_task(table.size, k.busy, op);
+    if let StartAnswer::Refused(_) = started {
+        return Called {
+            table,
+            answer: start_answer(started),
+        };
+    }
+    let begun = Task {
+        busy: true,
+        op,
+        made: 0,
+        held: 0,
+    };
+    let mut next = table;
+    next.tasks[task] = numbers_of_task(begun);
     Called {
-        table: table_after(start_took(answer), table, task, after),
-        answer: start_answer(answer),
+        table: next,
+        answer: start_answer(started),
     }
 }
 
@@ -270,11 +245,30 @@ pub extern "C" fn aml_start(
 pub extern "C" fn aml_step(table: HostTable, region: &mut [u8], task: usize) -> Called
     ensures { λ r. ⌜ (r ≡ L.stepCall table (now (region .entry)) task) × (now (region .exit) ≡ T.stepRegion (L.tableOf table) (now (region .entry)) task) ⌝ }
 {
-    let stepped = table_of(table).step(region, task);
-    let answer = stepped.answer;
-    let after = stepped.table;
+    let malformed = aml_is_malformed(table);
+    let checked = check_call(malformed, table.size, region.len(), task);
+    if let Outcome::Refused(_) = checked {
+        return Called {
+            table,
+            answer: outcome_answer(checked),
+        };
+    }
+    let host = table.tasks[task];
+    let k = task_of(host);
+    let moved = step_task(table.holder, task, k, region);
+    let answer = moved.answer;
+    let after = moved.task;
+    if !moved.accepted {
+        return Called {
+            table,
+            answer: step_answer(answer),
+        };
+    }
+    let mut next = table;
+    next.holder = moved.holder;
+    next.tasks[task] = numbers_of_task(after);
     Called {
-        table: table_after(step_took(answer), table, task, after),
+        table: next,
         answer: step_answer(answer),
     }
 }

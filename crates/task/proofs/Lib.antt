@@ -4,6 +4,7 @@ pub mod Malformed
 pub mod Answers
 pub mod Accepted
 pub mod Calls
+pub mod Named
 pub mod Sound
 pub mod Moves
 pub mod Together

@@ -13,7 +13,7 @@ use Rattle.types.specs.declared.refusal.Outcome.the-variants as O
 use Rattle.field_unit.specs.Calls.{countOf, checked, Accepted, count}
 use Rattle.field_unit.specs.declared.whole.UnitWritten.{UnitWritten}
 use Rattle.field_unit.specs.declared.whole.UnitWritten.the-variants as UW
-use Rattle.task.specs.Tasks.{taskAt, carriesLock, locks, numbersOf, lockers, wrongHolder, refused, badTask, malformed}
+use Rattle.task.specs.Tasks.{taskAt, carriesLock, locks, numbersOf, lockersOf, lockers, wrongHolder, refused, badTask, malformedBy, malformed}
 use Rattle.task.specs.declared.table.Task.{Task}
 use Rattle.task.specs.declared.table.Table.{Table}
 use Rattle.types.proofs.Tests.{or-none, and-no}
@@ -76,40 +76,38 @@ or-here a b e = rw e refl
 or-later : (a b : Bool) {x : Bool} → a ≡ false → x ≡ b → x ≡ (a || b)
 or-later a b e h = rw e h
 
-module _ (t : Table) where
-  abbrev Bad : ℕ → Bool
-  Bad i = badTask (t .size) (taskAt t i)
+module _ (size holder : ℕ) (k₀ k₁ k₂ k₃ : Task) where
+  abbrev Judged : Bool
+  Judged = malformedBy size holder k₀ k₁ k₂ k₃
 
-  pub large : 65536 < t .size → true ≡ malformed t
-  unfolding malformed
-  large h = or-here _ _ (lt-ltb 65536 (t .size) h)
+  pub large : 65536 < size → true ≡ Judged
+  large h = or-here _ _ (lt-ltb 65536 size h)
 
-  module _ (small : t .size ≤ 65536) where
-    tasks-on : {x : Bool} → x ≡ (Bad 0 || (Bad 1 || (Bad 2 || (Bad 3 || wrongHolder (lockers t) (t .holder))))) → x ≡ malformed t
-    unfolding malformed
-    tasks-on e = or-later _ _ (le-ltb 65536 (t .size) small) e
+  module _ (small : size ≤ 65536) where
+    tasks-on : {x : Bool} → x ≡ (badTask size k₀ || (badTask size k₁ || (badTask size k₂ || (badTask size k₃ || wrongHolder (lockersOf k₀ k₁ k₂ k₃) holder)))) → x ≡ Judged
+    tasks-on e = or-later _ _ (le-ltb 65536 size small) e
 
-    pub bad-0 : {a : Bool} → a ≡ Bad 0 → a ≡ true → true ≡ malformed t
+    pub bad-0 : {a : Bool} → a ≡ badTask size k₀ → a ≡ true → true ≡ Judged
     bad-0 p h = tasks-on (or-here _ _ (sym p ∙ h))
 
-    module _ {a : Bool} (pa : a ≡ Bad 0) (na : a ≡ false) where
-      pub bad-1 : {b : Bool} → b ≡ Bad 1 → b ≡ true → true ≡ malformed t
+    module _ {a : Bool} (pa : a ≡ badTask size k₀) (na : a ≡ false) where
+      pub bad-1 : {b : Bool} → b ≡ badTask size k₁ → b ≡ true → true ≡ Judged
       bad-1 p h = tasks-on (or-later _ _ (sym pa ∙ na) (or-here _ _ (sym p ∙ h)))
 
-      module _ {b : Bool} (pb : b ≡ Bad 1) (nb : b ≡ false) where
-        pub bad-2 : {c : Bool} → c ≡ Bad 2 → c ≡ true → true ≡ malformed t
+      module _ {b : Bool} (pb : b ≡ badTask size k₁) (nb : b ≡ false) where
+        pub bad-2 : {c : Bool} → c ≡ badTask size k₂ → c ≡ true → true ≡ Judged
         bad-2 p h = tasks-on (or-later _ _ (sym pa ∙ na) (or-later _ _ (sym pb ∙ nb) (or-here _ _ (sym p ∙ h))))
 
-        module _ {c : Bool} (pc : c ≡ Bad 2) (nc : c ≡ false) where
-          last-on : {x : Bool} → x ≡ (Bad 3 || wrongHolder (lockers t) (t .holder)) → x ≡ malformed t
+        module _ {c : Bool} (pc : c ≡ badTask size k₂) (nc : c ≡ false) where
+          last-on : {x : Bool} → x ≡ (badTask size k₃ || wrongHolder (lockersOf k₀ k₁ k₂ k₃) holder) → x ≡ Judged
           last-on e = tasks-on (or-later _ _ (sym pa ∙ na) (or-later _ _ (sym pb ∙ nb) (or-later _ _ (sym pc ∙ nc) e)))
 
-          pub bad-3 : {d : Bool} → d ≡ Bad 3 → d ≡ true → true ≡ malformed t
+          pub bad-3 : {d : Bool} → d ≡ badTask size k₃ → d ≡ true → true ≡ Judged
           bad-3 p h = last-on (or-here _ _ (sym p ∙ h))
 
-          pub holder-last : {d : Bool} → d ≡ Bad 3 → d ≡ false → {l m n o x : Bool}
-              → l ≡ locks (taskAt t 0) → m ≡ locks (taskAt t 1) → n ≡ locks (taskAt t 2) → o ≡ locks (taskAt t 3)
-              → x ≡ wrongHolder (numbersOf l m n o) (t .holder) → x ≡ malformed t
+          pub holder-last : {d : Bool} → d ≡ badTask size k₃ → d ≡ false → {l m n o x : Bool}
+              → l ≡ locks k₀ → m ≡ locks k₁ → n ≡ locks k₂ → o ≡ locks k₃
+              → x ≡ wrongHolder (numbersOf l m n o) holder → x ≡ Judged
           holder-last {d} pd nd {l} {m} {n} {o} {x} pl pm pn po e =
               last-on (or-later _ _ (sym pd ∙ nd) (e ∙ cc))
 
@@ -137,9 +135,9 @@ tasks-none false false false true e f h = absurd (true≢false h)
 tasks-none false false false false true f h = absurd (true≢false h)
 tasks-none false false false false false f h = (refl, refl, refl, refl)
 
-pub under-way : (t : Table) (i : ℕ) → malformed t ≡ false → i < 4 → taskAt t i .busy ≡ true → UnderWay (t .size) (taskAt t i)
+pub not-bad-there : (t : Table) (i : ℕ) → malformed t ≡ false → i < 4 → badTask (t .size) (taskAt t i) ≡ false
 unfolding malformed
-under-way t i e h b = not-bad (t .size) (taskAt t i) (go i h) b
+not-bad-there t i e h = go i h
   where
     bad : ℕ → Bool
     bad j = badTask (t .size) (taskAt t j)
@@ -153,3 +151,6 @@ under-way t i e h b = not-bad (t .size) (taskAt t i) (go i h) b
     go (suc (suc zero)) l = none .2
     go (suc (suc (suc zero))) l = none .3
     go (suc (suc (suc (suc j)))) l = absurd (omega arith)
+
+pub under-way : (t : Table) (i : ℕ) → malformed t ≡ false → i < 4 → taskAt t i .busy ≡ true → UnderWay (t .size) (taskAt t i)
+under-way t i e h b = not-bad (t .size) (taskAt t i) (not-bad-there t i e h) b

@@ -1,3 +1,4 @@
 pub mod Tasks
+pub mod One
 pub mod Runs
 pub mod Held

@@ -63,8 +63,11 @@ locks k = k .busy && (carriesLock (k .op) && ltb 0 (k .made))
 abbrev pub numbersOf : Bool → Bool → Bool → Bool → List ℕ
 numbersOf a b c d = cond a (0 ∷ []) [] ++ (cond b (1 ∷ []) [] ++ (cond c (2 ∷ []) [] ++ cond d (3 ∷ []) []))
 
+abbrev pub lockersOf : Task → Task → Task → Task → List ℕ
+lockersOf a b c d = numbersOf (locks a) (locks b) (locks c) (locks d)
+
 abbrev pub lockers : Table → List ℕ
-lockers t = numbersOf (locks (taskAt t 0)) (locks (taskAt t 1)) (locks (taskAt t 2)) (locks (taskAt t 3))
+lockers t = lockersOf (taskAt t 0) (taskAt t 1) (taskAt t 2) (taskAt t 3)
 
 -- "the lock's holder differs from the one busy lock-rule task with an access made (none if there is none; two such is malformed)"
 abbrev pub wrongHolder : List ℕ → ℕ → Bool
@@ -80,27 +83,36 @@ refused (O.Refused r) = true
 abbrev pub badTask : ℕ → Task → Bool
 badTask n k = k .busy && (refused (checked (k .op) n) || leb (countOf (k .op)) (k .made))
 
--- "its region length is over 65,536; or .."
+-- "its region length is over 65,536; or .."; by the length, the holder and the tasks
+abbrev pub malformedBy : ℕ → ℕ → Task → Task → Task → Task → Bool
+malformedBy n h a b c d =
+    ltb 65536 n || (badTask n a || (badTask n b || (badTask n c || (badTask n d || wrongHolder (lockersOf a b c d) h))))
+
 unfoldable pub malformed : Table → Bool
-malformed t =
-    ltb 65536 (t .size)
-    || (badTask (t .size) (taskAt t 0) || (badTask (t .size) (taskAt t 1) || (badTask (t .size) (taskAt t 2) || (badTask (t .size) (taskAt t 3)
-    || wrongHolder (lockers t) (t .holder)))))
+malformed t = malformedBy (t .size) (t .holder) (taskAt t 0) (taskAt t 1) (taskAt t 2) (taskAt t 3)
 
 -- ---- what start and step check alike, of a region of n bytes: "31, 24, 30"; 27 first
 
-abbrev pub callChecks : Table → ℕ → ℕ → Checks
-callChecks t n i =
+-- by whether the table is malformed, and the length that it names
+abbrev pub callChecksBy : Bool → ℕ → ℕ → ℕ → Checks
+callChecksBy bad size n i =
     (ltb 65536 n, R.TooManyBytes)
-    ∷ (malformed t, R.MalformedTable)
+    ∷ (bad, R.MalformedTable)
     ∷ (ltb 3 i, R.NoSuchTask)
-    ∷ (not (eqb n (t .size)), R.RegionLengthDiffers)
+    ∷ (not (eqb n size), R.RegionLengthDiffers)
     ∷ []
+
+abbrev pub callChecks : Table → ℕ → ℕ → Checks
+callChecks t n i = callChecksBy (malformed t) (t .size) n i
 
 -- ---- start: "31, 24, 30, 25, then the field's order"
 
+-- of a task that is busy or not, and what it is to do
+abbrev pub opChecks : ℕ → Bool → FieldOp → Checks
+opChecks size busy o = (busy, R.TaskBusy) ∷ fieldChecks (o .write) (o .field) size
+
 unfoldable pub startChecks : Table → List ℕ → ℕ → FieldOp → Checks
-startChecks t s i o = callChecks t (length s) i ++ ((taskAt t i .busy, R.TaskBusy) ∷ fieldChecks (o .write) (o .field) (t .size))
+startChecks t s i o = callChecks t (length s) i ++ opChecks (t .size) (taskAt t i .busy) o
 
 abbrev pub withTask : Table → ℕ → ℕ → Task → Table
 withTask t h i k = record { size = t .size; holder = h; tasks = set (t .tasks) i k }
@@ -118,11 +130,18 @@ start t s i o =
 -- ---- step: "31, 24, 30, 26, 23"
 
 -- "23 is given only for a lock-rule task without an access made, while another holds it"
+abbrev pub waitsFor : Task → ℕ → Bool
+waitsFor k h = carriesLock (k .op) && (eqb (k .made) 0 && not (eqb h 4))
+
 abbrev pub waits : Table → ℕ → Bool
-waits t i = carriesLock (taskAt t i .op) && (eqb (taskAt t i .made) 0 && not (eqb (t .holder) 4))
+waits t i = waitsFor (taskAt t i) (t .holder)
+
+-- of task k, by the lock's holder
+abbrev pub turnChecksBy : Task → ℕ → Checks
+turnChecksBy k h = (not (k .busy), R.TaskIdle) ∷ (waitsFor k h, R.LockHeld) ∷ []
 
 abbrev pub turnChecks : Table → ℕ → Checks
-turnChecks t i = (not (taskAt t i .busy), R.TaskIdle) ∷ (waits t i, R.LockHeld) ∷ []
+turnChecks t i = turnChecksBy (taskAt t i) (t .holder)
 
 unfoldable pub stepChecks : Table → List ℕ → ℕ → Checks
 stepChecks t s i = callChecks t (length s) i ++ turnChecks t i

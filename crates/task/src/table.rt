@@ -1,17 +1,12 @@
 // The task table: up to four tasks, each at one read or write of a field unit, and the lock. A table goes in by value and comes back beside the answer.
-ghost use mathlib.Core.Bool.{true};
-ghost use mathlib.Core.List.{_++_};
 ghost use mathlib.Core.Path.{_≡_};
-ghost use Prim.Native.Nat.{ℕ, _<_};
+ghost use Prim.Native.Nat.{_<_};
 ghost use Rattle.types.specs.Refusals.{firstOf};
-ghost use Rattle.field_unit.specs.Calls.{countOf};
 ghost use Rattle.task.specs.Tasks as T;
-use crate::well::carries_lock;
+use crate::one::check_call;
+use crate::one::start_task;
+use crate::one::step_task;
 use field_unit::access::FieldOp;
-use field_unit::next::Accessed;
-use field_unit::next::count_accesses;
-use field_unit::next::next_access;
-use field_unit::whole::UnitWritten;
 use types::flags::FieldFlags;
 use types::refusal::Outcome;
 use types::refusal::Refusal;
@@ -63,7 +58,7 @@ pub struct Stepped {
 }
 
 // What an idle task's record holds.
-fn idle() -> Task
+pub(crate) fn idle() -> Task
     ensures { λ r. ⌜ r ≡ T.idle ⌝ }
 {
     let field = FieldUnit {
@@ -97,50 +92,6 @@ fn fresh(size: u64) -> Table
     }
 }
 
-// The lock after an access of an operation, its last or not.
-fn holder_after(op: FieldOp, last: bool, task: usize, holder: u64) -> u64
-    ensures { λ r. ⌜ r ≡ T.holderAfter (T.carriesLock op) last task holder ⌝ }
-{
-    if carries_lock(op) {
-        if last {
-            return 4;
-        }
-        return task as u64;
-    }
-    holder
-}
-
-// What the last access of a write, or of a read that holds so much, answers.
-fn last_answer(write: bool, held: u64) -> StepAnswer
-    ensures { λ r. ⌜ r ≡ T.answerAfter true write held ⌝ }
-{
-    if write {
-        return StepAnswer::Done;
-    }
-    StepAnswer::Value(held)
-}
-
-// The count of accesses, where there is one: a busy task of a table that is not malformed has passed the start checks.
-fn total_of(counted: UnitWritten) -> u64
-    ensures { λ r. ⌜ ((n : ℕ) → counted ≡ UnitWritten.Count n → r ≡ n) ⌝ }
-{
-    match counted {
-        UnitWritten::Count(n) => n,
-        UnitWritten::Refused(_) => 0,
-    }
-}
-
-// What is held after an access, where one was made: such a task has an access left.
-fn held_of(accessed: Accessed) -> u64
-    ensures { λ r. ⌜ ((h : ℕ) → accessed ≡ Accessed.Held h → r ≡ h) ⌝ }
-{
-    match accessed {
-        Accessed::Held(h) => h,
-        Accessed::Over => 0,
-        Accessed::Refused(_) => 0,
-    }
-}
-
 impl Table {
     // A table for a region of size bytes.
     pub fn new(size: u64) -> Made
@@ -162,19 +113,8 @@ impl Table {
     fn check(self, bytes: usize, task: usize) -> Outcome
         ensures { λ r. ⌜ r ≡ firstOf (T.callChecks self bytes task) ⌝ }
     {
-        if 65536 < bytes {
-            return Outcome::Refused(Refusal::TooManyBytes);
-        }
-        if self.is_malformed() {
-            return Outcome::Refused(Refusal::MalformedTable);
-        }
-        if 3 < task {
-            return Outcome::Refused(Refusal::NoSuchTask);
-        }
-        if bytes as u64 != self.size {
-            return Outcome::Refused(Refusal::RegionLengthDiffers);
-        }
-        Outcome::Done
+        let malformed = self.is_malformed();
+        check_call(malformed, self.size, bytes, task)
     }
 
     fn with_task(self, holder: u64, task: usize, k: Task) -> Table
@@ -199,86 +139,22 @@ impl Table {
             };
         }
         let k = self.tasks[task];
-        if k.busy {
+        let answer = start_task(self.size, k.busy, op);
+        if let StartAnswer::Refused(_) = answer {
             return Started {
                 table: self,
-                answer: StartAnswer::Refused(Refusal::TaskBusy),
+                answer,
             };
         }
-        let counted = count_accesses(op, self.size);
-        match counted {
-            UnitWritten::Refused(r) => Started {
-                table: self,
-                answer: StartAnswer::Refused(r),
-            },
-            UnitWritten::Count(n) => {
-                let begun = Task {
-                    busy: true,
-                    op,
-                    made: 0,
-                    held: 0,
-                };
-                Started {
-                    table: self.with_task(self.holder, task, begun),
-                    answer: StartAnswer::Count(n),
-                }
-            }
-        }
-    }
-
-    // 26, 23: whether it is the task's turn.
-    fn check_turn(self, task: usize) -> Outcome
-        requires { ⌜ task < 4 ⌝ }
-        ensures { λ r. ⌜ r ≡ firstOf (T.turnChecks self task) ⌝ }
-    {
-        let k = self.tasks[task];
-        let op = k.op;
-        if !k.busy {
-            return Outcome::Refused(Refusal::TaskIdle);
-        }
-        if carries_lock(op) {
-            if k.made == 0 {
-                if self.holder != 4 {
-                    return Outcome::Refused(Refusal::LockHeld);
-                }
-            }
-        }
-        Outcome::Done
-    }
-
-    fn check_step(self, bytes: usize, task: usize) -> Outcome
-        ensures { λ r. ⌜ r ≡ firstOf (T.callChecks self bytes task ++ T.turnChecks self task) ⌝ }
-    {
-        let checked = self.check(bytes, task);
-        if let Outcome::Refused(r) = checked {
-            return Outcome::Refused(r);
-        }
-        self.check_turn(task)
-    }
-
-    // After the task's next access, one of so many, it holds this: the table and the answer.
-    fn advanced(self, task: usize, total: u64, held: u64) -> Stepped
-        requires { ⌜ (task < 4) × (total ≡ countOf (T.taskAt self task .op)) × (T.taskAt self task .made < total) ⌝ }
-        ensures { λ r. ⌜ r ≡ T.advanced self task held ⌝ }
-    {
-        let k = self.tasks[task];
-        let op = k.op;
-        let made = k.made + 1;
-        if made == total {
-            return Stepped {
-                table: self.with_task(holder_after(op, true, task, self.holder), task, idle()),
-                answer: last_answer(op.write, held),
-            };
-        }
-        let next = Task {
+        let begun = Task {
             busy: true,
             op,
-            made,
-            held,
+            made: 0,
+            held: 0,
         };
-        Stepped {
-            table: self.with_task(holder_after(op, false, task, self.holder), task, next),
-            answer: StepAnswer::More,
+        Started {
+            table: self.with_task(self.holder, task, begun),
+            answer,
         }
     }
 
@@ -286,7 +162,7 @@ impl Table {
     pub fn step(self, region: &mut [u8], task: usize) -> Stepped
         ensures { λ r. ⌜ (r ≡ T.step self (now (region .entry)) task) × (now (region .exit) ≡ T.stepRegion self (now (region .entry)) task) ⌝ }
     {
-        let checked = self.check_step(region.len(), task);
+        let checked = self.check(region.len(), task);
         if let Outcome::Refused(r) = checked {
             return Stepped {
                 table: self,
@@ -294,9 +170,18 @@ impl Table {
             };
         }
         let k = self.tasks[task];
-        let op = k.op;
-        let total = total_of(count_accesses(op, self.size));
-        let held = held_of(next_access(op, k.made, k.held, region));
-        self.advanced(task, total, held)
+        let moved = step_task(self.holder, task, k, region);
+        let answer = moved.answer;
+        let next = moved.task;
+        if !moved.accepted {
+            return Stepped {
+                table: self,
+                answer,
+            };
+        }
+        Stepped {
+            table: self.with_task(moved.holder, task, next),
+            answer,
+        }
     }
 }

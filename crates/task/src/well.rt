@@ -80,29 +80,36 @@ fn is_wrong_holder(a: bool, b: bool, c: bool, d: bool, holder: u64) -> bool
     holder != 4
 }
 
+// Whether a table of this region length, this holder and these tasks is malformed.
+pub fn malformed_by(size: u64, holder: u64, a: Task, b: Task, c: Task, d: Task) -> bool
+    ensures { λ r. ⌜ r ≡ T.malformedBy size holder a b c d ⌝ }
+{
+    if 65536 < size {
+        return true;
+    }
+    if bad_task(size, a) {
+        return true;
+    }
+    if bad_task(size, b) {
+        return true;
+    }
+    if bad_task(size, c) {
+        return true;
+    }
+    if bad_task(size, d) {
+        return true;
+    }
+    is_wrong_holder(locks(a), locks(b), locks(c), locks(d), holder)
+}
+
 impl Table {
     pub fn is_malformed(self) -> bool
         ensures { λ r. ⌜ r ≡ T.malformed self ⌝ }
     {
-        if 65536 < self.size {
-            return true;
-        }
         let a = self.tasks[0];
-        if bad_task(self.size, a) {
-            return true;
-        }
         let b = self.tasks[1];
-        if bad_task(self.size, b) {
-            return true;
-        }
         let c = self.tasks[2];
-        if bad_task(self.size, c) {
-            return true;
-        }
         let d = self.tasks[3];
-        if bad_task(self.size, d) {
-            return true;
-        }
-        is_wrong_holder(locks(a), locks(b), locks(c), locks(d), self.holder)
+        malformed_by(self.size, self.holder, a, b, c, d)
     }
 }

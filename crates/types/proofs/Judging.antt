@@ -38,6 +38,13 @@ behind-refused a b r p h = sym (behind a b ∙ ap (λ o. judged o (firstOf b) O.
 pub behind-turn : (a b : Checks) {x y : Outcome} → x ≡ firstOf a → x ≡ O.Done → y ≡ firstOf b → y ≡ firstOf (a ++ b)
 behind-turn a b p h q = q ∙ behind-passed a b p h
 
+-- a last check that does not hold decides nothing
+pub drop-last : (a : Checks) (c : Bool × Refusal) → c .0 ≡ false → firstOf (a ++ (c ∷ [])) ≡ firstOf a
+unfolding firstOf
+drop-last [] c e = rw e refl
+drop-last ((true, r) ∷ a) c e = refl
+drop-last ((false, r) ∷ a) c e = drop-last a c e
+
 -- ---- no check holds
 
 abbrev isDone : Outcome → Bool

@@ -2,7 +2,7 @@
 -- with its type as the present one.
 -- Assumes nothing.
 use mathlib.Core.Path.{_≡_, refl}
-use mathlib.Core.Bool.{Bool, not}
+use mathlib.Core.Bool.{Bool, false, not}
 use mathlib.Core.List.{List, [], _∷_}
 use Prim.Native.Nat.{ℕ}
 use lib.Dec.{eqb}
@@ -15,7 +15,7 @@ use Rattle.types.specs.declared.value.AmlValue.{AmlValue}
 use Rattle.types.specs.declared.value.AmlValue.the-variants as Val
 use Rattle.types.specs.declared.value.FieldUnit.{FieldUnit}
 use Rattle.types.proofs.value.AmlValue.{the-type}
-use Rattle.value.specs.Conversions.{Held, boolean, integer, string, buffer, bufferField, fieldUnit, kind, heldBy, truthNumber, bufferNumber, bufferFieldContent, fieldUnitContent, no, contentInteger, toInteger, toBool, these, none, contentBuffer, toBuffer, contentString, toString}
+use Rattle.value.specs.Conversions.{Held, boolean, integer, string, buffer, bufferField, fieldUnit, kind, heldBy, truthNumber, bufferNumber, bufferFieldContent, fieldUnitContent, no, contentInteger, toInteger, toBool, these, none, contentBuffer, toBuffer, contentString, toString, sameType}
 use Rattle.value.specs.Integers.{textAnswer, textNumber, parsed}
 use Rattle.value.specs.declared.convert.IntegerAnswer.the-variants as IA
 use Rattle.value.specs.declared.convert.BoolAnswer.the-variants as BA
@@ -132,16 +132,16 @@ parsed-buffer s = refl
 -- ---- the kinds that a conversion does not name
 
 -- the places of the kinds in the enum: Boolean, Integer, String, Buffer, BufferField, Field, then the contentless ones
-module _ {A : Type 0} (ks : List ℕ) (f : Held → A) (refused : AmlType → A) (s : List ℕ) where
-  -- a conversion that refuses the kinds of a list refuses each value of these kinds by its type
-  by-kind : ((b : Bool) → OneOf ks 0 → f (boolean b) ≡ refused T.Integer)
-      → ((n : ℕ) → OneOf ks 1 → f (integer n) ≡ refused T.Integer)
-      → (OneOf ks 2 → f (string s) ≡ refused T.String)
-      → (OneOf ks 3 → f (buffer s) ≡ refused T.Buffer)
-      → ((o n : ℕ) → OneOf ks 4 → f (bufferField o n s) ≡ refused T.BufferField)
-      → ((u : FieldUnit) → OneOf ks 5 → f (fieldUnit u s) ≡ refused T.FieldUnit)
+module _ {A : Type 0} (Met : AmlType → ℕ → Type 0) (f : Held → A) (refused : AmlType → A) (s : List ℕ) where
+  -- a conversion that refuses what is met, by its type and place, refuses each such value by its type
+  by-kind : ((b : Bool) → Met T.Integer 0 → f (boolean b) ≡ refused T.Integer)
+      → ((n : ℕ) → Met T.Integer 1 → f (integer n) ≡ refused T.Integer)
+      → (Met T.String 2 → f (string s) ≡ refused T.String)
+      → (Met T.Buffer 3 → f (buffer s) ≡ refused T.Buffer)
+      → ((o n : ℕ) → Met T.BufferField 4 → f (bufferField o n s) ≡ refused T.BufferField)
+      → ((u : FieldUnit) → Met T.FieldUnit 5 → f (fieldUnit u s) ≡ refused T.FieldUnit)
       → ((t : AmlType) → f (kind t) ≡ refused t)
-      → (v : AmlValue) → OneOf ks (tagOf the-type v) → f (heldBy v s) ≡ refused (typeOf v)
+      → (v : AmlValue) → Met (typeOf v) (tagOf the-type v) → f (heldBy v s) ≡ refused (typeOf v)
   by-kind p0 p1 p2 p3 p4 p5 p6 (Val.Boolean b) k = p0 b k
   by-kind p0 p1 p2 p3 p4 p5 p6 (Val.Integer n) k = p1 n k
   by-kind p0 p1 p2 p3 p4 p5 p6 Val.String k = p2 k
@@ -157,14 +157,36 @@ module _ {A : Type 0} (ks : List ℕ) (f : Held → A) (refused : AmlType → A)
   by-kind p0 p1 p2 p3 p4 p5 p6 Val.PowerResource k = p6 T.PowerResource
   by-kind p0 p1 p2 p3 p4 p5 p6 Val.ThermalZone k = p6 T.ThermalZone
 
-abbrev pub notInteger : List ℕ
-notInteger = 2 ∷ 6 ∷ 7 ∷ 8 ∷ 9 ∷ 10 ∷ 11 ∷ 12 ∷ 13 ∷ []
-
+-- all but the two of type Integer
 abbrev pub notBool : List ℕ
 notBool = 2 ∷ 3 ∷ 4 ∷ 5 ∷ 6 ∷ 7 ∷ 8 ∷ 9 ∷ 10 ∷ 11 ∷ 12 ∷ 13 ∷ []
 
-abbrev pub notBuffer : List ℕ
-notBuffer = 0 ∷ 1 ∷ 2 ∷ 6 ∷ 7 ∷ 8 ∷ 9 ∷ 10 ∷ 11 ∷ 12 ∷ 13 ∷ []
+-- all but the first, Boolean; all but the second, Integer
+abbrev noBoolean : List ℕ
+noBoolean = 1 ∷ notBool
+
+abbrev noInteger : List ℕ
+noInteger = 0 ∷ notBool
+
+pub no-number : (v : AmlValue) → OneOf noInteger (tagOf the-type v) → OneOf noBoolean (tagOf the-type v) → sameType (typeOf v) T.Integer ≡ false
+no-number (Val.Boolean b) k l = absurd (miss noBoolean 0 tt l)
+no-number (Val.Integer n) k l = absurd (miss noInteger 1 tt k)
+no-number Val.String k l = refl
+no-number Val.Buffer k l = refl
+no-number (Val.BufferField o n) k l = refl
+no-number (Val.Field u) k l = refl
+no-number Val.OpRegion k l = refl
+no-number Val.Device k l = refl
+no-number Val.Method k l = refl
+no-number Val.Processor k l = refl
+no-number Val.Mutex k l = refl
+no-number Val.Package k l = refl
+no-number Val.PowerResource k l = refl
+no-number Val.ThermalZone k l = refl
+
+-- all but Buffer, BufferField and Field: no bytes are read of them
+abbrev pub unread : List ℕ
+unread = 0 ∷ 1 ∷ 2 ∷ 6 ∷ 7 ∷ 8 ∷ 9 ∷ 10 ∷ 11 ∷ 12 ∷ 13 ∷ []
 
 abbrev pub notString : List ℕ
 notString = 0 ∷ 1 ∷ 3 ∷ 4 ∷ 6 ∷ 7 ∷ 8 ∷ 9 ∷ 10 ∷ 11 ∷ 12 ∷ 13 ∷ []
@@ -173,32 +195,33 @@ abbrev pub notParsed : List ℕ
 notParsed = 0 ∷ 4 ∷ 5 ∷ 6 ∷ 7 ∷ 8 ∷ 9 ∷ 10 ∷ 11 ∷ 12 ∷ 13 ∷ []
 
 module _ (v : AmlValue) (s : List ℕ) where
-  pub no-integer : OneOf notInteger (tagOf the-type v) → toInteger (heldBy v s) ≡ IA.Refused (no (typeOf v) T.Integer)
+  pub no-integer : OneOf unread (tagOf the-type v) → sameType (typeOf v) T.Integer ≡ false → toInteger (heldBy v s) ≡ IA.Refused (no (typeOf v) T.Integer)
   unfolding toInteger
-  no-integer =
-      by-kind notInteger toInteger (λ t. IA.Refused (no t T.Integer)) s (λ b k. absurd (miss notInteger 0 tt k)) (λ n k. absurd (miss notInteger 1 tt k))
-      (λ k. refl) (λ k. absurd (miss notInteger 3 tt k)) (λ o n k. absurd (miss notInteger 4 tt k)) (λ u k. absurd (miss notInteger 5 tt k)) (λ t. refl) v
+  no-integer k d =
+      by-kind (λ t k. OneOf unread k × (sameType t T.Integer ≡ false)) toInteger (λ t. IA.Refused (no t T.Integer)) s
+      (λ b k. cc (k .1)) (λ n k. cc (k .1)) (λ k. refl) (λ k. absurd (miss unread 3 tt (k .0))) (λ o n k. absurd (miss unread 4 tt (k .0)))
+      (λ u k. absurd (miss unread 5 tt (k .0))) (λ t. refl) v (k, d)
 
   pub no-bool : OneOf notBool (tagOf the-type v) → toBool (heldBy v s) ≡ BA.Refused (no (typeOf v) T.Integer)
   unfolding toBool
   no-bool =
-      by-kind notBool toBool (λ t. BA.Refused (no t T.Integer)) s (λ b k. absurd (miss notBool 0 tt k)) (λ n k. absurd (miss notBool 1 tt k))
+      by-kind (λ t. OneOf notBool) toBool (λ t. BA.Refused (no t T.Integer)) s (λ b k. absurd (miss notBool 0 tt k)) (λ n k. absurd (miss notBool 1 tt k))
       (λ k. refl) (λ k. refl) (λ o n k. refl) (λ u k. refl) (λ t. refl) v
 
-  pub no-buffer : OneOf notBuffer (tagOf the-type v) → toBuffer (heldBy v s) ≡ none (no (typeOf v) T.Buffer)
+  pub no-buffer : OneOf unread (tagOf the-type v) → toBuffer (heldBy v s) ≡ none (no (typeOf v) T.Buffer)
   unfolding toBuffer
   no-buffer =
-      by-kind notBuffer toBuffer (λ t. none (no t T.Buffer)) s (λ b k. refl) (λ n k. refl) (λ k. refl) (λ k. absurd (miss notBuffer 3 tt k))
-      (λ o n k. absurd (miss notBuffer 4 tt k)) (λ u k. absurd (miss notBuffer 5 tt k)) (λ t. refl) v
+      by-kind (λ t. OneOf unread) toBuffer (λ t. none (no t T.Buffer)) s (λ b k. refl) (λ n k. refl) (λ k. refl) (λ k. absurd (miss unread 3 tt k))
+      (λ o n k. absurd (miss unread 4 tt k)) (λ u k. absurd (miss unread 5 tt k)) (λ t. refl) v
 
   pub no-string : OneOf notString (tagOf the-type v) → toString (heldBy v s) ≡ none (no (typeOf v) T.String)
   unfolding toString
   no-string =
-      by-kind notString toString (λ t. none (no t T.String)) s (λ b k. refl) (λ n k. refl) (λ k. absurd (miss notString 2 tt k)) (λ k. refl)
+      by-kind (λ t. OneOf notString) toString (λ t. none (no t T.String)) s (λ b k. refl) (λ n k. refl) (λ k. absurd (miss notString 2 tt k)) (λ k. refl)
       (λ o n k. refl) (λ u k. absurd (miss notString 5 tt k)) (λ t. refl) v
 
   pub no-parsed : OneOf notParsed (tagOf the-type v) → parsed (heldBy v s) ≡ IA.Refused (no (typeOf v) T.Integer)
   unfolding parsed
   no-parsed =
-      by-kind notParsed parsed (λ t. IA.Refused (no t T.Integer)) s (λ b k. refl) (λ n k. absurd (miss notParsed 1 tt k)) (λ k. absurd (miss notParsed 2 tt k))
+      by-kind (λ t. OneOf notParsed) parsed (λ t. IA.Refused (no t T.Integer)) s (λ b k. refl) (λ n k. absurd (miss notParsed 1 tt k)) (λ k. absurd (miss notParsed 2 tt k))
       (λ k. absurd (miss notParsed 3 tt k)) (λ o n k. refl) (λ u k. refl) (λ t. refl) v

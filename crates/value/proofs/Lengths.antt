@@ -29,7 +29,7 @@ use Rattle.value.specs.Lengths.{lengthOf, bufferLength, stringLength}
 use Rattle.value.specs.declared.convert.LengthAnswer.{LengthAnswer}
 use Rattle.value.specs.declared.convert.LengthAnswer.the-variants as LA
 use Rattle.value.proofs.Lent.{lent-short, lent-long}
-use Rattle.value.proofs.ByKind.{buffer-of-buffer, buffer-of-bufferField, buffer-of-fieldUnit, no-buffer, string-of-string, string-of-fieldUnit, no-string, notBuffer, notString}
+use Rattle.value.proofs.ByKind.{buffer-of-buffer, buffer-of-bufferField, buffer-of-fieldUnit, no-buffer, string-of-string, string-of-fieldUnit, no-string, unread, notString}
 use Rattle.value.proofs.Fields.{checked-inside, checked-refused, content-number, content-bytes, unit-no-buffer, unit-no-string}
 
 -- ---- a BufferField
@@ -74,7 +74,7 @@ module _ (v : AmlValue) (s : List ℕ) where
     pub buffer-of-unit : (f : FieldUnit) → v ≡ Val.Field f → (r : Refusal) → r ≡ unitRefusal (fieldUnitContent f s) T.Buffer → LA.Refused r ≡ bufferLength v s
     buffer-of-unit f k r g = rw (← buffer-counted, k, buffer-of-fieldUnit, unit-no-buffer (readField s f), g)
 
-    pub buffer-of-other : OneOf notBuffer (tagOf the-type v) → (t : AmlType) → t ≡ typeOf v → (r : Refusal) → r ≡ no t T.Buffer → LA.Refused r ≡ bufferLength v s
+    pub buffer-of-other : OneOf unread (tagOf the-type v) → (t : AmlType) → t ≡ typeOf v → (r : Refusal) → r ≡ no t T.Buffer → LA.Refused r ≡ bufferLength v s
     buffer-of-other k t f r g = rw (← buffer-counted, no-buffer v s k, g, f)
 
     pub string-of : v ≡ Val.String → LA.Length (length s) ≡ stringLength v s

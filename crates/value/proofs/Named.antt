@@ -1,6 +1,7 @@
 -- A value taken to a named type: itself where the type's number is its own, an Integer or a Buffer by their conversions, and 1 for every other name.
 -- Assumes nothing.
 use mathlib.Core.Path.{_≡_, refl, sym, ap, _∙_}
+use mathlib.Core.Bool.{false}
 use mathlib.Core.List.{List, [], _∷_}
 use Prim.Native.Nat.{ℕ, _≤_}
 use lib.ListN.{length}
@@ -12,7 +13,7 @@ use Rattle.types.specs.declared.value.AmlType.{AmlType}
 use Rattle.types.specs.declared.value.AmlType.the-variants as T
 use Rattle.types.specs.declared.value.AmlValue.{AmlValue}
 use Rattle.types.proofs.value.AmlType.{the-type}
-use Rattle.value.specs.Conversions.{Held, heldBy, no, asInteger, asBuffer, Given, given, GivenType, givenType, integerType, lengthType, toType, asType}
+use Rattle.value.specs.Conversions.{Held, heldBy, no, asInteger, asBuffer, Given, given, GivenType, givenType, integerType, lengthType, toType, sameType, asType}
 use Rattle.value.specs.declared.convert.LengthAnswer.{LengthAnswer}
 use Rattle.value.specs.declared.convert.TypeAnswer.the-variants as TA
 use Rattle.value.proofs.Lent.{asInteger-short, asBuffer-short, asType-short}
@@ -41,6 +42,10 @@ not-named present T.ThermalZone h out k = refl
 pub other : (v : AmlValue) (t wanted : AmlType) (x y : ℕ) → t ≡ typeOf v → x ≡ typeNumberOf t → y ≡ typeNumberOf wanted → (x ≡ y → ⊥)
     → typeNumberOf (typeOf v) ≡ typeNumberOf wanted → ⊥
 other v t wanted x y p q r d e = d (q ∙ ap typeNumberOf p ∙ e ∙ sym r)
+
+-- to Integer: so the value is none
+pub no-integer-yet : (v : AmlValue) (wanted : AmlType) → (typeNumberOf (typeOf v) ≡ typeNumberOf wanted → ⊥) → wanted ≡ T.Integer → sameType (typeOf v) T.Integer ≡ false
+no-integer-yet v wanted d e = ne-eqb (typeNumberOf (typeOf v)) (typeNumberOf T.Integer) (λ q. d (q ∙ sym (ap typeNumberOf e)))
 
 abbrev lengthGiven : Given → GivenType
 lengthGiven g = givenType (lengthType (g .answer)) (g .out)

@@ -1,8 +1,11 @@
 // Conversions. A field is read first where document 01 says so, and its own refusals come before 1.
 ghost use mathlib.Core.Path.{_≡_};
 ghost use Prim.Native.Nat.{_≤_};
+ghost use mathlib.Core.Bool.{false};
 ghost use lib.ListN;
-ghost use Rattle.value.specs.Conversions.{no as noConversion, truthNumber, bufferFieldContent, fieldUnitContent, contentInteger, contentBuffer, unitRefusal, these, given, giving, givenType, integerType, lengthType, asInteger, asBool, asBuffer, asString, asType};
+ghost use Rattle.types.specs.Values.{typeOf};
+ghost use Rattle.types.specs.declared.value.AmlType.the-variants as T;
+ghost use Rattle.value.specs.Conversions.{no as noConversion, truthNumber, bufferFieldContent, fieldUnitContent, contentInteger, contentBuffer, unitRefusal, these, given, giving, givenType, integerType, lengthType, asInteger, asBool, asBuffer, asString, sameType, asType};
 ghost use Rattle.value.specs.Lengths.{lengthOf, bufferLength, stringLength};
 use buffer_field::check_buffer_field;
 use field_unit::whole::UnitRead;
@@ -74,9 +77,21 @@ pub fn as_integer(value: AmlValue, bytes: &[u8]) -> IntegerAnswer
     if 65536 < bytes.len() {
         return IntegerAnswer::Refused(Refusal::TooManyBytes);
     }
+    if let AmlValue::Integer(n) = value {
+        return IntegerAnswer::Integer(n);
+    }
+    if let AmlValue::Boolean(b) = value {
+        return IntegerAnswer::Integer(truth_number(b));
+    }
+    content_integer(value, bytes)
+}
+
+// Of a value that is no number itself: by its bytes, or refused.
+fn content_integer(value: AmlValue, bytes: &[u8]) -> IntegerAnswer
+    requires { ⌜ (lib.ListN.length (now bytes) ≤ 65536) × (sameType (typeOf value) T.Integer ≡ false) ⌝ }
+    ensures { λ r. ⌜ r ≡ asInteger value (now (bytes .entry)) ⌝ }
+{
     match value {
-        AmlValue::Integer(n) => IntegerAnswer::Integer(n),
-        AmlValue::Boolean(b) => IntegerAnswer::Integer(truth_number(b)),
         AmlValue::Buffer => IntegerAnswer::Integer(bits::run::get_bits(bytes, 0, 64)),
         AmlValue::BufferField { offset, length } => buffer_field_integer(bytes, offset, length),
         AmlValue::Field(field) => field_integer(bytes, field),
@@ -241,7 +256,7 @@ pub fn as_type(value: AmlValue, bytes: &[u8], wanted: AmlType, out: &mut [u8]) -
         return TypeAnswer::Same;
     }
     match wanted {
-        AmlType::Integer => integer_type(as_integer(value, bytes)),
+        AmlType::Integer => integer_type(content_integer(value, bytes)),
         AmlType::Buffer => length_type(as_buffer(value, bytes, out)),
         _ => TypeAnswer::Refused(no(type_of(value), wanted)),
     }

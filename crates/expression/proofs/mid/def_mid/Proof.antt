@@ -1,55 +1,25 @@
--- `mid::def_mid` meets its contract: each return is a case of Mid, in the order index, length, source.
+-- `mid::def_mid` meets its contract: a place is Mid done, a refusal is its own.
 -- Assumes nothing.
-use Rattle.expression.proofs.Slicing.{outcome-long, outcome-refused, outcome-string, outcome-buffer, outcome-other}
+use Rattle.expression.proofs.Slicing.{placed-done, outcome-refused}
 use borrow.Author.Needs.{needs}
 use Rattle.expression.proofs.mid.def_mid.Statement.{statement}
 use Rattle.expression.proofs.mid.def_mid.Tie as tie
 
-returns : tie.Need-returns
-returns c = search outcome-long
-
-both-operands-requires : tie.Need-both-operands-requires
-both-operands-requires c κs = search needs
-
-enum-known-both : tie.Need-enum-known-both
-enum-known-both c = search needs
-
-returns-2 : tie.Need-returns-2
-returns-2 c = search outcome-refused
+def-mid-place-requires : tie.Need-def-mid-place-requires
+def-mid-place-requires c κs = search needs
 
 enum-told : tie.Need-enum-told
 enum-told c = search needs
 
-enum-told-2 : tie.Need-enum-told-2
-enum-told-2 c = search needs
+enum-known-found : tie.Need-enum-known-found
+enum-known-found c = search needs
 
-enum-told-3 : tie.Need-enum-told-3
-enum-told-3 c = search needs
+returns : tie.Need-returns
+returns c = search placed-done
 
-type-of-requires : tie.Need-type-of-requires
-type-of-requires c κs = search needs
-
-returns-3 : tie.Need-returns-3
-returns-3 c = search outcome-string
-
-returns-4 : tie.Need-returns-4
-returns-4 c = search outcome-buffer
-
-returns-5 : tie.Need-returns-5
-returns-5 c = search outcome-other
+returns-2 : tie.Need-returns-2
+returns-2 c = search outcome-refused
 
 pub def-mid-spec : {M : Type 1} → statement M
 def-mid-spec =
-    tie.close
-    (tie.spec
-    returns
-    both-operands-requires
-    enum-known-both
-    returns-2
-    enum-told
-    enum-told-2
-    enum-told-3
-    type-of-requires
-    returns-3
-    returns-4
-    returns-5)
+    tie.close (tie.spec def-mid-place-requires enum-told enum-known-found returns returns-2)

@@ -77,14 +77,18 @@ sub-merge : tie.Need-sub-merge
 sub-merge c = search needs
 
 merge-requires : tie.Need-merge-requires
-merge-requires c κs = search needs
+merge-requires c κs =
+    let a = c .before .before .before .before .before .before .before .before .before .args in
+    let q = c .before .before .before .before .before .before .before .before .before .pre in
+    let f = facts-at (a .op) (a .size) (a .width) (q .0) (q .1) in
+    let i = inside-at (a .op) (a .size) (a .u) (a .width) (q .0) (q .1) (q .2) (q .3) in
+    (omega arith, omega arith)
 
 returns-2 : tie.Need-returns-2
 returns-2 c =
     let a = c .before .before .before .before .before .before .before .before .before .before .args in
     let q = c .before .before .before .before .before .before .before .before .before .before .pre in
     let f = facts-at (a .op) (a .size) (a .width) (q .0) (q .1) in
-    let i = inside-at (a .op) (a .size) (a .u) (a .width) (q .0) (q .1) (q .2) (q .3) in
     ap (λ (x : ℕ). run (bitOf x) 0 (a .width)) (c .merge .ensures)
     ∙ merges-at (a .op) (a .u) (a .held) (a .width) (q .1) (c .before .before .before .before .before .before .before .before .greater .result) (c .before .before .before .before .before .before .lesser .result) (c .before .before .before .before .before .before .before .before .greater .ensures) (c .before .before .before .before .before .before .lesser .ensures) (c .before .around .result) (omega arith)
     (λ k l. rw (← (c .before .before .rule .ensures)) (c .before .around .ensures k l))

@@ -1,54 +1,41 @@
--- Each turn makes the first of the accesses that are left (writing-next), until as many as asked for were made or none is left.
+-- Each turn makes the first of the accesses that are left (writing-next), until none is.
 -- Assumes nothing.
 use mathlib.Core.Path.{ap, _∙_}
-use Prim.Native.Nat.{_-_}
 use native.Mathlib.Omega.{arith}
 use borrow.Author.Needs.{needs}
 use denote.Ref.{now}
 use lib.ListN.{length}
 use Rattle.field_unit.specs.Accesses.{last, unitOf}
 use Rattle.field_unit.specs.Calls.{planOf}
+use Rattle.field_unit.specs.Left.{left}
 use Rattle.field_unit.proofs.Accepted.{facts}
-use Rattle.field_unit.proofs.Turns.{Writing, unit-of-cond, writing-start, writing-next, writing-full, writing-over}
+use Rattle.field_unit.proofs.Bounds.{count-most}
+use Rattle.field_unit.proofs.Turns.{Writing, unit-of-cond, writing-start, writing-next, writing-less, writing-over}
 use Rattle.field_unit.proofs.run.run.Statement.{statement}
 use Rattle.field_unit.proofs.run.run.Tie as tie
 
 abbrev Inv-loop : tie.InvT-loop
-Inv-loop op width u loaded limit region₀ held last at₀ is-loaded₀ kept₀ n₀ region at is-loaded kept n =
-    Writing (planOf op) limit region₀ held u loaded region kept at is-loaded n
+Inv-loop op width region₀ last at₀ loaded₀ held₀ n₀ region at loaded held n = Writing (planOf op) region₀ region held at loaded n
 
 abbrev μ-loop : tie.MeasureT-loop
-μ-loop op width u loaded limit region₀ held last at₀ is-loaded₀ kept₀ n₀ region at is-loaded kept n =
-    limit - n
+μ-loop op width region₀ last at₀ loaded₀ held₀ n₀ region at loaded held n = length (left (planOf op) at loaded)
 
 last-unit-requires : tie.Need-last-unit-requires Inv-loop μ-loop
 last-unit-requires c κs = (c .before .pre .1, c .before .pre .2)
 
+first-unit-requires : tie.Need-first-unit-requires Inv-loop μ-loop
+first-unit-requires c κs = (c .before .before .pre .1, c .before .before .pre .2)
+
 loop-holds : tie.Need-loop-holds Inv-loop μ-loop
-loop-holds c =
-    let a = c .before .before .args in
-    let q = c .before .before .pre in
-    writing-start (planOf (a .op)) (a .limit) (now (a .region)) (a .held) (a .u) (a .loaded) (q .3) (q .4)
-
-same-length : tie.Need-same-length Inv-loop μ-loop
-same-length c = search needs
-
-returns : tie.Need-returns Inv-loop μ-loop
-returns c =
-    let l = c .before .before .loop in
-    let a = c .before .before .before .before .before .args in
-    let q = c .before .before .before .before .before .pre in
-    let e = c .before .before .before .last-unit .ensures in
-    let i = l .inv in
-    let f = facts (a .op) (length (now (a .region))) (q .1) in
-    writing-over (planOf (a .op)) (a .limit) (now (a .region)) (a .held) (a .u) (a .loaded) (l .region) (l .kept) (l .at) (l .is-loaded) (l .n) i (omega arith)
+loop-holds c = let a = c .before .before .before .args in writing-start (planOf (a .op)) (now (a .region)) _ (c .first-unit .ensures)
 
 is-loaded-first-requires : tie.Need-is-loaded-first-requires Inv-loop μ-loop
 is-loaded-first-requires c κs =
-    let l = c .before .before .loop in
+    let l = c .before .loop in
     let a = c .before .before .before .before .before .args in
     let q = c .before .before .before .before .before .pre in
     let e = c .before .before .before .last-unit .ensures in
+    let t = c .loop-test .taken in
     let i = l .inv in
     let f = facts (a .op) (length (now (a .region))) (q .1) in
     (rw (i .size) (q .1), q .2, i .from, omega arith)
@@ -58,10 +45,11 @@ access-of-requires c κs = search needs
 
 act-requires : tie.Need-act-requires Inv-loop μ-loop
 act-requires c κs =
-    let l = c .before .before .before .before .before .loop in
+    let l = c .before .before .before .before .loop in
     let a = c .before .before .before .before .before .before .before .before .args in
     let q = c .before .before .before .before .before .before .before .before .pre in
     let e = c .before .before .before .before .before .before .last-unit .ensures in
+    let t = c .before .before .before .loop-test .taken in
     let i = l .inv in
     let f = facts (a .op) (length (now (a .region))) (q .1) in
     let u = ap unitOf (c .before .access-of .ensures) ∙ unit-of-cond (c .before .before .is-loaded-first .result) (l .at) in
@@ -70,57 +58,59 @@ act-requires c κs =
 
 unit-after-requires : tie.Need-unit-after-requires Inv-loop μ-loop
 unit-after-requires c κs =
-    let l = c .before .before .before .before .before .before .before .before .loop in
+    let l = c .before .before .before .before .before .before .before .loop in
     let a = c .before .before .before .before .before .before .before .before .before .before .before .args in
     let q = c .before .before .before .before .before .before .before .before .before .before .before .pre in
     let e = c .before .before .before .before .before .before .before .before .before .last-unit .ensures in
+    let t = c .before .before .before .before .before .before .loop-test .taken in
     let i = l .inv in
     let f = facts (a .op) (length (now (a .region))) (q .1) in
     omega arith
 
 add-n : tie.Need-add-n Inv-loop μ-loop
 add-n c =
-    let l = c .before .before .before .before .before .before .before .before .before .loop in
+    let l = c .before .before .before .before .before .before .before .before .loop in
     let a = c .before .before .before .before .before .before .before .before .before .before .before .before .args in
     let q = c .before .before .before .before .before .before .before .before .before .before .before .before .pre in
     let e = c .before .before .before .before .before .before .before .before .before .before .last-unit .ensures in
+    let t = c .before .before .before .before .before .before .before .loop-test .taken in
     let i = l .inv in
     let f = facts (a .op) (length (now (a .region))) (q .1) in
-    omega arith
+    omega (arith, i .counted, count-most (a .op) (length (now (a .region))) (q .1))
 
 loop-less : tie.Need-loop-less Inv-loop μ-loop
 loop-less c =
-    let l = c .before .before .before .before .before .before .before .before .before .loop in
+    let l = c .before .before .before .before .before .before .before .before .loop in
     let a = c .before .before .before .before .before .before .before .before .before .before .before .before .args in
     let q = c .before .before .before .before .before .before .before .before .before .before .before .before .pre in
     let e = c .before .before .before .before .before .before .before .before .before .before .last-unit .ensures in
+    let t = c .before .before .before .before .before .before .before .loop-test .taken in
     let i = l .inv in
     let f = facts (a .op) (length (now (a .region))) (q .1) in
-    omega arith
+    writing-less (planOf (a .op)) (now (a .region)) (l .region) (l .held) (l .at) (l .loaded) (l .n) i _ _ (q .0) (omega arith) (c .before .before .before .before .before .before .is-loaded-first .ensures) (c .unit-after .ensures)
 
 loop-again : tie.Need-loop-again Inv-loop μ-loop
 loop-again c =
-    let l = c .before .before .before .before .before .before .before .before .before .loop in
+    let l = c .before .before .before .before .before .before .before .before .loop in
     let a = c .before .before .before .before .before .before .before .before .before .before .before .before .args in
     let q = c .before .before .before .before .before .before .before .before .before .before .before .before .pre in
     let e = c .before .before .before .before .before .before .before .before .before .before .last-unit .ensures in
+    let t = c .before .before .before .before .before .before .before .loop-test .taken in
     let i = l .inv in
     let f = facts (a .op) (length (now (a .region))) (q .1) in
-    writing-next (planOf (a .op)) (a .limit) (now (a .region)) (a .held) (a .u) (a .loaded) (l .region) (l .kept) (l .at) (l .is-loaded) (l .n) i _ (c .before .before .before .act .result) (c .unit-after .result) (c .before .before .before .before .before .access-of .result) (c .before .before .before .before .before .before .is-loaded-first .result)
-    (q .0) (omega arith) (c .before .before .before .before .before .before .before .before .loop-test .taken) (c .before .before .before .before .before .before .is-loaded-first .ensures) (c .before .before .before .before .before .access-of .ensures) (c .unit-after .ensures) (c .before .before .before .act .ensures)
+    writing-next (planOf (a .op)) (now (a .region)) (l .region) (l .held) (l .at) (l .loaded) (l .n) i _ (c .before .before .before .act .result) (c .unit-after .result) (c .before .before .before .before .before .access-of .result) (c .before .before .before .before .before .before .is-loaded-first .result)
+    (q .0) (omega arith) (c .before .before .before .before .before .before .is-loaded-first .ensures) (c .before .before .before .before .before .access-of .ensures) (c .unit-after .ensures) (c .before .before .before .act .ensures)
 
-same-length-2 : tie.Need-same-length-2 Inv-loop μ-loop
-same-length-2 c = search needs
+same-length : tie.Need-same-length Inv-loop μ-loop
+same-length c = search needs
 
-returns-2 : tie.Need-returns-2 Inv-loop μ-loop
-returns-2 c =
+returns : tie.Need-returns Inv-loop μ-loop
+returns c =
     let l = c .before .loop in
-    let a = c .before .before .before .before .args in
-    let q = c .before .before .before .before .pre in
-    let e = c .before .before .last-unit .ensures in
-    let i = l .inv in
-    let f = facts (a .op) (length (now (a .region))) (q .1) in
-    writing-full (planOf (a .op)) (a .limit) (now (a .region)) (a .held) (a .u) (a .loaded) (l .region) (l .kept) (l .at) (l .is-loaded) (l .n) i (c .loop-test .left)
+    let a = c .before .before .before .before .before .args in
+    let q = c .before .before .before .before .before .pre in
+    let e = c .before .before .before .last-unit .ensures in
+    writing-over (planOf (a .op)) (now (a .region)) (l .region) (l .held) (l .at) (l .loaded) (l .n) (l .inv) (omega (arith, c .loop-test .left))
 
 pub run-spec : {M : Type 1} → statement M
 run-spec =
@@ -129,9 +119,8 @@ run-spec =
     Inv-loop
     μ-loop
     last-unit-requires
+    first-unit-requires
     loop-holds
-    same-length
-    returns
     is-loaded-first-requires
     access-of-requires
     act-requires
@@ -139,5 +128,5 @@ run-spec =
     add-n
     loop-less
     loop-again
-    same-length-2
-    returns-2)
+    same-length
+    returns)

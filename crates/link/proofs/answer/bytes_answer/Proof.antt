@@ -2,6 +2,7 @@
 -- Assumes nothing.
 use mathlib.Core.Path.{_≡_, sym, ap, _∙_}
 use Rattle.link.specs.Answers.{bytesAnswer}
+use Rattle.link.proofs.Numbers.{by-word}
 use borrow.Author.Needs.{needs}
 use Rattle.link.proofs.answer.bytes_answer.Statement.{statement}
 use Rattle.link.proofs.answer.bytes_answer.Tie as tie
@@ -15,6 +16,9 @@ accepted-requires c κs = search needs
 enum-known-r-2 : tie.Need-enum-known-r-2
 enum-known-r-2 c = search needs
 
+word-of-requires : tie.Need-word-of-requires
+word-of-requires c κs = search needs
+
 refused-requires : tie.Need-refused-requires
 refused-requires c κs = search needs
 
@@ -24,9 +28,9 @@ returns c = c .accepted .ensures ∙ sym (ap (bytesAnswer (c .before .before .be
 
 returns-2 : tie.Need-returns-2
 unfolding bytesAnswer
-returns-2 c = c .refused .ensures ∙ sym (ap (bytesAnswer (c .before .before .before .before .args .kind)) (c .before .before .r2 .given .1))
+returns-2 c = by-word _ (c .before .word-of .ensures) (c .refused .ensures) ∙ sym (ap (bytesAnswer (c .before .before .before .before .before .args .kind)) (c .before .before .before .r2 .given .1))
 
 pub bytes-answer-spec : {M : Type 1} → statement M
 bytes-answer-spec =
     tie.close
-    (tie.spec enum-known-r accepted-requires enum-known-r-2 refused-requires returns returns-2)
+    (tie.spec enum-known-r accepted-requires enum-known-r-2 word-of-requires refused-requires returns returns-2)

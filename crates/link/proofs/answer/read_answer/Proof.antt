@@ -2,6 +2,7 @@
 -- Assumes nothing.
 use mathlib.Core.Path.{_≡_, sym, ap, _∙_}
 use Rattle.link.specs.Answers.{readAnswer}
+use Rattle.link.proofs.Numbers.{by-word}
 use borrow.Author.Needs.{needs}
 use Rattle.link.proofs.answer.read_answer.Statement.{statement}
 use Rattle.link.proofs.answer.read_answer.Tie as tie
@@ -21,6 +22,9 @@ accepted-requires-2 c κs = search needs
 enum-known-r-3 : tie.Need-enum-known-r-3
 enum-known-r-3 c = search needs
 
+word-of-requires : tie.Need-word-of-requires
+word-of-requires c κs = search needs
+
 refused-requires : tie.Need-refused-requires
 refused-requires c κs = search needs
 
@@ -34,7 +38,7 @@ returns-2 c = c .accepted2 .ensures ∙ sym (ap readAnswer (c .before .before .r
 
 returns-3 : tie.Need-returns-3
 unfolding readAnswer
-returns-3 c = c .refused .ensures ∙ sym (ap readAnswer (c .before .before .r3 .given .1))
+returns-3 c = by-word _ (c .before .word-of .ensures) (c .refused .ensures) ∙ sym (ap readAnswer (c .before .before .before .r3 .given .1))
 
 pub read-answer-spec : {M : Type 1} → statement M
 read-answer-spec =
@@ -45,6 +49,7 @@ read-answer-spec =
     enum-known-r-2
     accepted-requires-2
     enum-known-r-3
+    word-of-requires
     refused-requires
     returns
     returns-2

@@ -3,6 +3,7 @@
 use mathlib.Core.Path.{_≡_, sym, ap, _∙_}
 use Prim.Native.Nat.{ℕ}
 use Rattle.link.specs.Answers.{statusAnswer, accepted}
+use Rattle.link.proofs.Numbers.{by-word}
 use borrow.Author.Needs.{needs}
 use Rattle.link.proofs.answer.status_answer.Statement.{statement}
 use Rattle.link.proofs.answer.status_answer.Tie as tie
@@ -19,6 +20,9 @@ accepted-requires c κs = search needs
 enum-known-r-2 : tie.Need-enum-known-r-2
 enum-known-r-2 c = search needs
 
+word-of-requires : tie.Need-word-of-requires
+word-of-requires c κs = search needs
+
 refused-requires : tie.Need-refused-requires
 refused-requires c κs = search needs
 
@@ -28,7 +32,7 @@ returns c = c .accepted .ensures ∙ ap (λ (n : ℕ). accepted 1 0 n) (c .befor
 
 returns-2 : tie.Need-returns-2
 unfolding statusAnswer
-returns-2 c = c .refused .ensures ∙ sym (ap statusAnswer (c .before .before .r2 .given .1))
+returns-2 c = by-word _ (c .before .word-of .ensures) (c .refused .ensures) ∙ sym (ap statusAnswer (c .before .before .before .r2 .given .1))
 
 pub status-answer-spec : {M : Type 1} → statement M
 status-answer-spec =
@@ -38,6 +42,7 @@ status-answer-spec =
     status-number-requires
     accepted-requires
     enum-known-r-2
+    word-of-requires
     refused-requires
     returns
     returns-2)

@@ -2,6 +2,7 @@
 -- Assumes nothing.
 use mathlib.Core.Path.{_≡_, sym, ap, _∙_}
 use Rattle.link.specs.Answers.{typeAnswer}
+use Rattle.link.proofs.Numbers.{by-word}
 use borrow.Author.Needs.{needs}
 use Rattle.link.proofs.answer.type_answer.Statement.{statement}
 use Rattle.link.proofs.answer.type_answer.Tie as tie
@@ -27,6 +28,9 @@ accepted-requires-3 c κs = search needs
 enum-known-r-3 : tie.Need-enum-known-r-3
 enum-known-r-3 c = search needs
 
+word-of-requires : tie.Need-word-of-requires
+word-of-requires c κs = search needs
+
 refused-requires : tie.Need-refused-requires
 refused-requires c κs = search needs
 
@@ -44,7 +48,7 @@ returns-3 c = c .accepted3 .ensures ∙ sym (ap typeAnswer (c .before .before .r
 
 returns-4 : tie.Need-returns-4
 unfolding typeAnswer
-returns-4 c = c .refused .ensures ∙ sym (ap typeAnswer (c .before .before .r3 .given .1))
+returns-4 c = by-word _ (c .before .word-of .ensures) (c .refused .ensures) ∙ sym (ap typeAnswer (c .before .before .before .r3 .given .1))
 
 pub type-answer-spec : {M : Type 1} → statement M
 type-answer-spec =
@@ -57,6 +61,7 @@ type-answer-spec =
     enum-known-r-2
     accepted-requires-3
     enum-known-r-3
+    word-of-requires
     refused-requires
     returns
     returns-2

@@ -2,25 +2,40 @@
 -- Assumes nothing.
 use mathlib.Core.Path.{_≡_, ap, _∙_}
 use Rattle.link.specs.Answers.{integerAnswer}
-use Rattle.link.proofs.Known.{are-values, no-values}
+use Rattle.link.proofs.Known.{no-left, no-right, are-values}
 use borrow.Author.Needs.{needs}
 use Rattle.link.proofs.operators.aml_shift_left.Statement.{statement}
 use Rattle.link.proofs.operators.aml_shift_left.Tie as tie
 
-are-kinds-requires : tie.Need-are-kinds-requires
-are-kinds-requires c κs = search needs
+given-of-requires : tie.Need-given-of-requires
+given-of-requires c κs = search needs
+
+enum-known-g : tie.Need-enum-known-g
+enum-known-g c = search needs
+
+enum-told : tie.Need-enum-told
+enum-told c = search needs
 
 no-such-kind-requires : tie.Need-no-such-kind-requires
 no-such-kind-requires c κs = search needs
 
 returns : tie.Need-returns
-returns c = no-values (c .before .before .before .before .before .args .left) (c .before .before .before .before .before .args .right) _ _ (c .before .before .are-kinds .ensures) (c .before .if1 .taken) (c .no-such-kind .ensures)
+returns c = search no-left
 
-value-of-requires : tie.Need-value-of-requires
-value-of-requires c κs = search needs
+given-of-requires-2 : tie.Need-given-of-requires-2
+given-of-requires-2 c κs = search needs
 
-value-of-requires-2 : tie.Need-value-of-requires-2
-value-of-requires-2 c κs = search needs
+enum-known-h : tie.Need-enum-known-h
+enum-known-h c = search needs
+
+enum-told-2 : tie.Need-enum-told-2
+enum-told-2 c = search needs
+
+no-such-kind-requires-2 : tie.Need-no-such-kind-requires-2
+no-such-kind-requires-2 c κs = search needs
+
+returns-2 : tie.Need-returns-2
+returns-2 c = search no-right
 
 def-shift-left-requires : tie.Need-def-shift-left-requires
 def-shift-left-requires c κs = search needs
@@ -28,18 +43,23 @@ def-shift-left-requires c κs = search needs
 integer-answer-requires : tie.Need-integer-answer-requires
 integer-answer-requires c κs = search needs
 
-returns-2 : tie.Need-returns-2
-returns-2 c = are-values (c .before .before .before .before .before .before .before .before .args .left) (c .before .before .before .before .before .before .before .before .args .right) _ _ (c .before .before .before .before .before .are-kinds .ensures) (c .before .before .before .before .if1 .left) (c .before .before .before .value-of .ensures) (c .before .before .value-of2 .ensures) (c .integer-answer .ensures ∙ ap integerAnswer (c .before .def-shift-left .ensures))
+returns-3 : tie.Need-returns-3
+returns-3 c = let e = c .integer-answer .ensures ∙ ap integerAnswer (c .before .def-shift-left .ensures) in search are-values
 
 pub aml-shift-left-spec : {M : Type 1} → statement M
 aml-shift-left-spec =
     tie.close
     (tie.spec
-    are-kinds-requires
+    given-of-requires
+    enum-known-g
+    enum-told
     no-such-kind-requires
     returns
-    value-of-requires
-    value-of-requires-2
+    given-of-requires-2
+    enum-known-h
+    enum-told-2
+    no-such-kind-requires-2
+    returns-2
     def-shift-left-requires
     integer-answer-requires
-    returns-2)
+    returns-3)

@@ -3,7 +3,7 @@
 use mathlib.Core.Path.{sym, ap, _∙_}
 use Rattle.types.specs.Values.{typeNumberOf}
 use Rattle.value.proofs.Lent.{asType-long}
-use Rattle.value.proofs.Named.{other, type-same, type-integer, type-buffer, type-none}
+use Rattle.value.proofs.Named.{other, no-integer-yet, type-same, type-integer, type-buffer, type-none}
 use borrow.Author.Needs.{needs}
 use Rattle.value.proofs.convert.as_type.Statement.{statement}
 use Rattle.value.proofs.convert.as_type.Tie as tie
@@ -30,8 +30,12 @@ returns-2 c =
 enum-told : tie.Need-enum-told
 enum-told c = search needs
 
-as-integer-requires : tie.Need-as-integer-requires
-as-integer-requires c κs = search needs
+content-integer-requires : tie.Need-content-integer-requires
+content-integer-requires c κs =
+    let k = c .before .before in
+    let a = k .before .before .before .before .before .before .before .args in
+    let differ = other (a .value) _ (a .wanted) _ _ (k .before .before .before .type-of .ensures) (k .before .before .type-number .ensures) (k .before .type-number2 .ensures) (k .if2 .left) in
+    (k .before .before .before .before .if1 .left, no-integer-yet (a .value) (a .wanted) differ (c .enum-told .given .1))
 
 integer-type-requires : tie.Need-integer-type-requires
 integer-type-requires c κs = search needs
@@ -56,7 +60,7 @@ returns-3 c =
     let k = c .before .before .before .before in
     let a = k .before .before .before .before .before .before .before .args in
     let differ = other (a .value) _ (a .wanted) _ _ (k .before .before .before .type-of .ensures) (k .before .before .type-number .ensures) (k .before .type-number2 .ensures) (k .if2 .left) in
-    rw (c .integer-type .ensures, c .before .as-integer .ensures)
+    rw (c .integer-type .ensures, c .before .content-integer .ensures)
     (sym (type-integer _ _ (k .before .before .before .before .if1 .left) _ _ differ (c .before .before .enum-told .given .1)))
 
 same-length : tie.Need-same-length
@@ -89,7 +93,7 @@ as-type-spec =
     type-number-requires-2
     returns-2
     enum-told
-    as-integer-requires
+    content-integer-requires
     integer-type-requires
     enum-told-2
     as-buffer-requires

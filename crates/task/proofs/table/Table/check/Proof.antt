@@ -1,28 +1,23 @@
--- `task::table::Table::check` meets its contract: the checks are passed one by one, in the order of the list.
+-- `task::table::Table::check` meets its contract: of the table itself.
 -- Assumes nothing.
-use Rattle.task.proofs.Answers.{call-27, call-31, call-24, call-30, call-done}
+use mathlib.Core.Path.{ap, _∙_}
+use mathlib.Core.Bool.{Bool}
+use Rattle.types.specs.Refusals.{firstOf}
+use Rattle.task.specs.Tasks.{callChecksBy}
 use borrow.Author.Needs.{needs}
 use Rattle.task.proofs.table.Table.check.Statement.{statement}
 use Rattle.task.proofs.table.Table.check.Tie as tie
 
-returns : tie.Need-returns
-returns c = search call-27
-
 is-malformed-requires : tie.Need-is-malformed-requires
 is-malformed-requires c κs = search needs
 
-returns-2 : tie.Need-returns-2
-returns-2 c = search call-31
+check-call-requires : tie.Need-check-call-requires
+check-call-requires c κs = search needs
 
-returns-3 : tie.Need-returns-3
-returns-3 c = search call-24
-
-returns-4 : tie.Need-returns-4
-returns-4 c = search call-30
-
-returns-5 : tie.Need-returns-5
-returns-5 c = search call-done
+returns : tie.Need-returns
+returns c =
+    let a = c .before .before .args in
+    c .check-call .ensures ∙ ap (λ (m : Bool). firstOf (callChecksBy m (a .self .size) (a .bytes) (a .task))) (c .before .is-malformed .ensures)
 
 pub check-spec : {M : Type 1} → statement M
-check-spec =
-    tie.close (tie.spec returns is-malformed-requires returns-2 returns-3 returns-4 returns-5)
+check-spec = tie.close (tie.spec is-malformed-requires check-call-requires returns)

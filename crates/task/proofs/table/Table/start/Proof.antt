@@ -1,8 +1,8 @@
--- `task::table::Table::start` meets its contract: what is refused leaves the table, and what is accepted is counted.
+-- `task::table::Table::start` meets its contract: what is refused leaves the table, and what is accepted begins.
 -- Assumes nothing.
 use Prim.Native.Nat.{_<_}
 use native.Mathlib.Omega.{arith}
-use Rattle.task.proofs.Answers.{start-unchecked, call-small, start-busy, start-refused, start-accepted}
+use Rattle.task.proofs.Named.{call-small, start-unchecked, start-stayed, start-begun}
 use borrow.Author.Needs.{needs}
 use Rattle.task.proofs.table.Table.start.Statement.{statement}
 use Rattle.task.proofs.table.Table.start.Tie as tie
@@ -25,26 +25,23 @@ mul-k c = let few : c .before .before .before .before .args .task < 4 = search c
 element-copy-out-k : tie.Need-element-copy-out-k
 element-copy-out-k c = search call-small
 
+start-task-requires : tie.Need-start-task-requires
+start-task-requires c κs = search needs
+
+enum-told-2 : tie.Need-enum-told-2
+enum-told-2 c = search needs
+
 returns-2 : tie.Need-returns-2
-returns-2 c = search start-busy
+returns-2 c = search start-stayed
 
-count-accesses-requires : tie.Need-count-accesses-requires
-count-accesses-requires c κs = search needs
-
-enum-known-counted : tie.Need-enum-known-counted
-enum-known-counted c = search needs
-
-enum-known-counted-2 : tie.Need-enum-known-counted-2
-enum-known-counted-2 c = search needs
+enum-told-3 : tie.Need-enum-told-3
+enum-told-3 c = search needs
 
 with-task-requires : tie.Need-with-task-requires
 with-task-requires c κs = search call-small
 
 returns-3 : tie.Need-returns-3
-returns-3 c = search start-refused
-
-returns-4 : tie.Need-returns-4
-returns-4 c = search start-accepted
+returns-3 c = search start-begun
 
 pub start-spec : {M : Type 1} → statement M
 start-spec =
@@ -56,10 +53,9 @@ start-spec =
     enum-told
     mul-k
     element-copy-out-k
+    start-task-requires
+    enum-told-2
     returns-2
-    count-accesses-requires
-    enum-known-counted
-    enum-known-counted-2
+    enum-told-3
     with-task-requires
-    returns-3
-    returns-4)
+    returns-3)

@@ -1,78 +1,61 @@
--- `task::table::Table::step` meets its contract: a table that is not malformed has a busy task accepted with an access left, so the count and the access are there.
+-- `task::table::Table::step` meets its contract: what is refused leaves the table, and what is accepted moves its one task.
 -- Assumes nothing.
-use lib.ListN.{length}
 use Prim.Native.Nat.{_<_}
 use native.Mathlib.Omega.{arith}
-use Rattle.task.proofs.Answers.{step-refused, kept-refused, step-small, step-total, step-left, step-answer, step-region}
+use Rattle.task.proofs.Named.{call-small, step-unchecked, region-unchecked, step-stayed, step-moved, region-moved}
 use borrow.Author.Needs.{needs}
 use Rattle.task.proofs.table.Table.step.Statement.{statement}
 use Rattle.task.proofs.table.Table.step.Tie as tie
 
-check-step-requires : tie.Need-check-step-requires
-check-step-requires c κs = search needs
+check-requires : tie.Need-check-requires
+check-requires c κs = search needs
 
 enum-known-checked : tie.Need-enum-known-checked
 enum-known-checked c = search needs
 
 returns : tie.Need-returns
-returns c = (search step-refused, search kept-refused)
+returns c = (search step-unchecked, search region-unchecked)
 
 enum-told : tie.Need-enum-told
 enum-told c = search needs
 
 mul-k : tie.Need-mul-k
-mul-k c = let few : c .before .before .before .before .args .task < 4 = search step-small in omega arith
+mul-k c = let few : c .before .before .before .before .args .task < 4 = search call-small in omega arith
 
 element-copy-out-k : tie.Need-element-copy-out-k
-element-copy-out-k c = search step-small
+element-copy-out-k c = search call-small
 
-count-accesses-requires : tie.Need-count-accesses-requires
-count-accesses-requires c κs = search needs
-
-total-of-requires : tie.Need-total-of-requires
-total-of-requires c κs = search needs
-
-next-access-requires : tie.Need-next-access-requires
-next-access-requires c κs = search needs
-
-held-of-requires : tie.Need-held-of-requires
-held-of-requires c κs = search needs
-
-advanced-requires : tie.Need-advanced-requires
-advanced-requires c κs =
-    let counted = c .before .before .before .before .before in
-    let told = counted .before .before .before .before in
-    let a = told .before .before .before .before .args in
-    let size = length (a .region .now) in
-    let checked = told .before .before .check-step .ensures in
-    let done = told .enum-told .given .1 in
-    let n = counted .before .count-accesses .ensures in
-    let total = counted .total-of .ensures in (
-      step-small (a .t1) size (a .task) checked done,
-      step-total (a .t1) size (a .task) checked done n total,
-      step-left (a .t1) size (a .task) checked done n total,
-    )
+step-task-requires : tie.Need-step-task-requires
+step-task-requires c κs = search needs
 
 same-length : tie.Need-same-length
 same-length c = search needs
 
 returns-2 : tie.Need-returns-2
-returns-2 c = (search step-answer, search step-region)
+returns-2 c = (search step-stayed, search region-moved)
+
+with-task-requires : tie.Need-with-task-requires
+with-task-requires c κs = search call-small
+
+same-length-2 : tie.Need-same-length-2
+same-length-2 c = search needs
+
+returns-3 : tie.Need-returns-3
+returns-3 c = (search step-moved, search region-moved)
 
 pub step-spec : {M : Type 1} → statement M
 step-spec =
     tie.close
     (tie.spec
-    check-step-requires
+    check-requires
     enum-known-checked
     returns
     enum-told
     mul-k
     element-copy-out-k
-    count-accesses-requires
-    total-of-requires
-    next-access-requires
-    held-of-requires
-    advanced-requires
+    step-task-requires
     same-length
-    returns-2)
+    returns-2
+    with-task-requires
+    same-length-2
+    returns-3)
