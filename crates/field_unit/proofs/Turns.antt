@@ -83,21 +83,24 @@ module _ (p : Plan) (s t : List ℕ) (g u : ℕ) (b : Bool) (n : ℕ) (i : Writi
       after-kept true q _ = omega arith
       after-kept false q z = absurd (false≢true z)
 
-  -- each access leaves one less
-  pub writing-less : (x : ℕ) (c : Bool) → p .write ≡ true → u ≤ last p → c ≡ stays p u b → x ≡ cond c u (u + 1) → length (left p x c) < length (left p u b)
-  writing-less x c w l ec ex =
-      let q = ap length (left-step p u b w l c ec) in
-      let z : length (left p x c) ≡ length (left p (cond c u (u + 1)) c) = ap (λ (y : ℕ). length (left p y c)) ex in
-      omega (arith, q, z)
+  over-by : left p u b ≡ [] → (n ≡ length (accesses p)) × (t ≡ whole p s .region)
+  over-by q = (
+    omega (arith, i .counted, ap length q),
+    ap (λ (y : Progress). y .region) (sym (acts-none p (progress t g)) ∙ ap (λ (y : List Access). acts p y (progress t g)) (sym q) ∙ i .rest),
+  )
 
-  -- none is left
+  -- as many were made as there are
+  pub writing-full : length (accesses p) ≤ n → (n ≡ length (accesses p)) × (t ≡ whole p s .region)
+  writing-full l = over-by (empty (left p u b) (omega (arith, i .counted)))
+    where
+      empty : (x : List Access) → length x ≡ 0 → x ≡ []
+      empty [] e = refl
+      empty (y ∷ x) e = absurd (omega (arith, e))
+
+  -- or none is left
   pub writing-over : last p < u → (n ≡ length (accesses p)) × (t ≡ whole p s .region)
   writing-over l = go b refl
     where
       go : (y : Bool) → b ≡ y → (n ≡ length (accesses p)) × (t ≡ whole p s .region)
       go true e = let no : ⊥ = omega (arith, i .kept e) in absurd no
-      go false e =
-          let q : left p u b ≡ [] = ap (left p u) e ∙ left-over p u l in (
-            omega (arith, i .counted, ap length q),
-            ap (λ (y : Progress). y .region) (sym (acts-none p (progress t g)) ∙ ap (λ (y : List Access). acts p y (progress t g)) (sym q) ∙ i .rest),
-          )
+      go false e = over-by (ap (left p u) e ∙ left-over p u l)

@@ -41,7 +41,7 @@ fn unit_after(stays: bool, u: u64) -> u64
     if stays { u } else { u + 1 }
 }
 
-// Makes all of them, from the first unit on. Answers how many.
+// Makes all of them, from the first unit on; there are at most 11. Answers how many.
 pub(crate) fn run(op: FieldOp, width: u64, region: &mut [u8]) -> u64
     requires { ⌜ (op .write ≡ true) × (Accepted op (length (now region))) × (width ≡ planOf op .width) ⌝ }
     ensures { λ r. ⌜ (r ≡ countOf op) × (now (region .exit) ≡ whole (planOf op) (now (region .entry)) .region) ⌝ }
@@ -51,7 +51,10 @@ pub(crate) fn run(op: FieldOp, width: u64, region: &mut [u8]) -> u64
     let mut loaded = false;
     let mut held: u64 = 0;
     let mut n: u64 = 0;
-    while at <= last {
+    while n < 11 {
+        if last < at {
+            return n;
+        }
         let stays = is_loaded_first(op, width, at, loaded, region.len());
         let a = access_of(stays, at);
         held = act(op, width, a, region, held);

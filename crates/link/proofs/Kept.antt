@@ -17,14 +17,14 @@ use Rattle.types.specs.declared.value.FieldUnit.{FieldUnit}
 use Rattle.field_unit.specs.Checks.{fieldChecks}
 use Rattle.field_unit.specs.Calls.{checked}
 use Rattle.field_unit.specs.declared.access.FieldOp.{FieldOp}
-use Rattle.task.specs.Tasks.{taskAt, fresh, newTable, started, withTask, taskAfter, answerAfter, holderAfter, carriesLock, isLast, accessed, startChecks, stepChecks, refused, badTask, wrongHolder, lockers, malformed}
+use Rattle.task.specs.Tasks.{taskAt, fresh, newTable, started, withTask, taskAfter, holderAfter, carriesLock, isLast, accessed, startChecks, stepChecks, refused, badTask, wrongHolder, lockers, malformed}
 use Rattle.task.specs.declared.table.Task.{Task}
 use Rattle.task.specs.declared.table.Made.{Made}
 use Rattle.types.proofs.Judging.{none-holds}
 use Rattle.task.proofs.Calls.{start-passed, step-passed}
 use Rattle.task.proofs.Sound.{set-this}
 use Rattle.link.specs.Fields.{spaceOf, spaceNumber}
-use Rattle.link.specs.Tables.{truthOf, opOf, lengthSaid, taskOf, noTask, hostTaskAt, tableOf, numbersOfTask, changed, freshNumbers, startedCall, steppedCall, stepTook, NewSays, StartSays, StepSays, DamagedIsMalformed}
+use Rattle.link.specs.Tables.{truthOf, opOf, lengthSaid, taskOf, noTask, hostTaskAt, tableOf, numbersOfTask, changed, freshNumbers, startedCall, steppedCall, NewSays, StartSays, StepSays, DamagedIsMalformed}
 use Rattle.link.specs.declared.tables.HostTask.{HostTask}
 use Rattle.link.specs.declared.tables.HostTable.{HostTable}
 use Rattle.link.proofs.Hosted.{startBy, start-is, stepBy, step-is, task-there, took-after}

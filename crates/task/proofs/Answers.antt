@@ -4,16 +4,15 @@ use Prim.Native.Nat.{ℕ, _+_, _≤_, _<_}
 use native.Mathlib.Omega.{arith}
 use mathlib.Core.Path.{_≡_, refl, sym, ap, _∙_}
 use mathlib.Core.Bool.{Bool, true, false, cond, not, true≢false}
-use mathlib.Core.List.{List, [], _∷_, _++_}
+use mathlib.Core.List.{List, [], _∷_}
 use lib.Dec.{ltb, eqb}
 use lib.ListN.{length}
-use borrow.Author.Tests.{lt-ltb, le-ltb, lt-leb, le-leb, eq-eqb, ne-eqb, ltb-false, eqb-true}
+use borrow.Author.Tests.{lt-ltb, le-ltb, lt-leb, le-leb, eq-eqb, ne-eqb}
 use Rattle.types.specs.Refusals.{Checks, firstOf, judged}
 use Rattle.types.specs.declared.refusal.Refusal.{Refusal}
 use Rattle.types.specs.declared.refusal.Refusal.the-variants as R
 use Rattle.types.specs.declared.refusal.Outcome.{Outcome}
 use Rattle.types.specs.declared.refusal.Outcome.the-variants as O
-use Rattle.field_unit.specs.Checks.{fieldChecks}
 use Rattle.field_unit.specs.Calls.{countOf, Accepted, count, nextAccess, stepped}
 use Rattle.field_unit.specs.declared.access.FieldOp.{FieldOp}
 use Rattle.field_unit.specs.declared.whole.UnitWritten.{UnitWritten}
@@ -31,7 +30,7 @@ use Rattle.task.specs.declared.table.StepAnswer.{StepAnswer}
 use Rattle.task.specs.declared.table.StepAnswer.the-variants as ST
 use Rattle.types.proofs.Tests.{not-false}
 use Rattle.types.proofs.Judging.{refused, passed, none, behind-passed, behind-refused, none-holds}
-use Rattle.task.proofs.Counting.{counted-accepted, counted-refused, counted-number, accepted-counted, made-held, made-region}
+use Rattle.task.proofs.Counting.{counted-accepted, counted-refused, counted-number, made-held, made-region}
 use Rattle.task.proofs.Malformed.{bad-field, bad-made}
 
 -- ---- a new table

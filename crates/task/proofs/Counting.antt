@@ -54,11 +54,6 @@ module _ (o : FieldOp) (size : ℕ) {x : UnitWritten} (p : x ≡ count o size) w
       sym h ∙ p ∙ ap (λ c. judged c (UW.Count (countOf o)) UW.Refused) (counted-accepted n h) in
       cc
 
-  -- an operation that is accepted is counted
-  pub accepted-counted : Accepted o size → x ≡ UW.Count (countOf o)
-  unfolding count
-  accepted-counted e = p ∙ ap (λ c. judged c (UW.Count (countOf o)) UW.Refused) e
-
 -- ---- the next access: of an operation that is accepted and not at its end, it is made
 
 abbrev next : FieldOp → ℕ → ℕ → List ℕ → Progress

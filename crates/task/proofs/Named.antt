@@ -3,13 +3,12 @@
 use Prim.Native.Nat.{ℕ, _<_}
 use native.Mathlib.Omega.{arith}
 use mathlib.Core.Path.{_≡_, refl, sym, ap, _∙_}
-use mathlib.Core.Bool.{Bool, true, false, not, true≢false}
-use mathlib.Core.List.{List, [], _∷_, _++_}
+use mathlib.Core.Bool.{true, false, not, true≢false}
+use mathlib.Core.List.{List}
 use lib.ListN.{length}
 use borrow.Author.Tests.{ltb-false, eqb-true}
 use Rattle.types.specs.Refusals.{firstOf, judged}
 use Rattle.types.specs.declared.refusal.Refusal.{Refusal}
-use Rattle.types.specs.declared.refusal.Refusal.the-variants as R
 use Rattle.types.specs.declared.refusal.Outcome.{Outcome}
 use Rattle.types.specs.declared.refusal.Outcome.the-variants as O
 use Rattle.field_unit.specs.Calls.{countOf}

@@ -35,9 +35,6 @@ behind-passed a b p h = sym (behind a b ∙ ap (λ o. judged o (firstOf b) O.Ref
 pub behind-refused : (a b : Checks) (r : Refusal) {x : Outcome} → x ≡ firstOf a → x ≡ O.Refused r → O.Refused r ≡ firstOf (a ++ b)
 behind-refused a b r p h = sym (behind a b ∙ ap (λ o. judged o (firstOf b) O.Refused) (sym p ∙ h))
 
-pub behind-turn : (a b : Checks) {x y : Outcome} → x ≡ firstOf a → x ≡ O.Done → y ≡ firstOf b → y ≡ firstOf (a ++ b)
-behind-turn a b p h q = q ∙ behind-passed a b p h
-
 -- a last check that does not hold decides nothing
 pub drop-last : (a : Checks) (c : Bool × Refusal) → c .0 ≡ false → firstOf (a ++ (c ∷ [])) ≡ firstOf a
 unfolding firstOf

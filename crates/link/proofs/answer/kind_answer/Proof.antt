@@ -1,6 +1,6 @@
 -- `link::answer::kind_answer` meets its contract: the type's number.
 -- Assumes nothing.
-use mathlib.Core.Path.{_≡_, ap, _∙_}
+use mathlib.Core.Path.{ap, _∙_}
 use Prim.Native.Nat.{ℕ}
 use Rattle.link.specs.Answers.{accepted, kindAnswer}
 use borrow.Author.Needs.{needs}

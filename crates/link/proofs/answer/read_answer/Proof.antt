@@ -1,6 +1,6 @@
 -- `link::answer::read_answer` meets its contract: each arm tells which case the reading is.
 -- Assumes nothing.
-use mathlib.Core.Path.{_≡_, sym, ap, _∙_}
+use mathlib.Core.Path.{sym, ap, _∙_}
 use Rattle.link.specs.Answers.{readAnswer}
 use Rattle.link.proofs.Numbers.{by-word}
 use borrow.Author.Needs.{needs}

@@ -1,6 +1,6 @@
 -- `link::answer::status_answer` meets its contract: each arm tells which case the answer is.
 -- Assumes nothing.
-use mathlib.Core.Path.{_≡_, sym, ap, _∙_}
+use mathlib.Core.Path.{sym, ap, _∙_}
 use Prim.Native.Nat.{ℕ}
 use Rattle.link.specs.Answers.{statusAnswer, accepted}
 use Rattle.link.proofs.Numbers.{by-word}

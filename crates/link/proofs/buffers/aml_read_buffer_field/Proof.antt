@@ -1,6 +1,6 @@
 -- `link::buffers::aml_read_buffer_field` meets its contract: the numbers of what `read_buffer_field` answers, and its output.
 -- Assumes nothing.
-use mathlib.Core.Path.{_≡_, ap, _∙_}
+use mathlib.Core.Path.{ap, _∙_}
 use Rattle.buffer_field.specs.BufferFields.{Read}
 use Rattle.link.specs.Answers.{readAnswer}
 use borrow.Author.Needs.{needs}

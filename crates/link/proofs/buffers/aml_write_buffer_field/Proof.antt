@@ -1,6 +1,6 @@
 -- `link::buffers::aml_write_buffer_field` meets its contract: the numbers of what `write_buffer_field` answers, and its buffer; nothing of a kind that there is not.
 -- Assumes nothing.
-use mathlib.Core.Path.{_≡_, ap, _∙_}
+use mathlib.Core.Path.{ap, _∙_}
 use Rattle.buffer_field.specs.BufferFields.{Wrote}
 use Rattle.link.specs.Answers.{outcomeAnswer}
 use Rattle.link.proofs.Known.{no-value, is-value}

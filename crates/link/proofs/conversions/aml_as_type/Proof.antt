@@ -1,6 +1,6 @@
 -- `link::conversions::aml_as_type` meets its contract: the numbers of what `as_type` answers, and its output; nothing of a kind or a type that there is not.
 -- Assumes nothing.
-use mathlib.Core.Path.{_≡_, ap, _∙_}
+use mathlib.Core.Path.{ap, _∙_}
 use Rattle.value.specs.Conversions.{GivenType}
 use Rattle.link.specs.Answers.{typeAnswer}
 use Rattle.link.proofs.Known.{is-type, no-kind, no-type}

@@ -1,6 +1,6 @@
 -- `link::conversions::aml_default_status` meets its contract: the numbers of the status that `default_status` answers.
 -- Assumes nothing.
-use mathlib.Core.Path.{_≡_, ap, _∙_}
+use mathlib.Core.Path.{ap, _∙_}
 use Rattle.link.specs.Answers.{statusNumber}
 use borrow.Author.Needs.{needs}
 use Rattle.link.proofs.conversions.aml_default_status.Statement.{statement}

@@ -1,6 +1,5 @@
 -- `link::given::field_of` meets its contract: the fields are what was given, the space by its number.
 -- Assumes nothing.
-use mathlib.Core.Path.{_≡_}
 use borrow.Author.Needs.{needs}
 use Rattle.link.proofs.given.field_of.Statement.{statement}
 use Rattle.link.proofs.given.field_of.Tie as tie

@@ -1,6 +1,6 @@
 -- `link::given::type_named` meets its contract: each arm tells the number, and past 14 the list has no entry.
 -- Assumes nothing.
-use mathlib.Core.Path.{_≡_, sym}
+use mathlib.Core.Path.{sym}
 use Prim.Native.Nat.{_≤_}
 use lib.ListN.{List·getD-eq-default}
 use Rattle.link.specs.Values.{typeNamed, ofTypes}

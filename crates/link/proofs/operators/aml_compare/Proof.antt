@@ -1,6 +1,6 @@
 -- `link::operators::aml_compare` meets its contract: the numbers of what `compare` answers, of kinds that there are.
 -- Assumes nothing.
-use mathlib.Core.Path.{_≡_, ap, _∙_}
+use mathlib.Core.Path.{ap, _∙_}
 use Rattle.link.specs.Answers.{compareAnswer}
 use Rattle.link.proofs.Known.{no-left, no-right, are-values}
 use borrow.Author.Needs.{needs}

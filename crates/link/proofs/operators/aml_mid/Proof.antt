@@ -1,6 +1,6 @@
 -- `link::operators::aml_mid` meets its contract: the place that `def_mid_place` answers.
 -- Assumes nothing.
-use mathlib.Core.Path.{_≡_, ap, _∙_}
+use mathlib.Core.Path.{ap, _∙_}
 use Rattle.link.specs.Answers.{placeAnswer}
 use Rattle.link.proofs.Known.{no-value, no-left, no-right, is-value, are-values}
 use Rattle.link.proofs.Parts.{mid-count}

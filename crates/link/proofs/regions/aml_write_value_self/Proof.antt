@@ -1,6 +1,6 @@
 -- `link::regions::aml_write_value_self` meets its contract: the numbers of what `write_value_self` answers, and its region; nothing of a kind that there is not.
 -- Assumes nothing.
-use mathlib.Core.Path.{_≡_, ap, _∙_}
+use mathlib.Core.Path.{ap, _∙_}
 use Rattle.field_unit.specs.Calls.{Wrote}
 use Rattle.link.specs.Answers.{unitWrittenAnswer}
 use Rattle.link.proofs.Counts.{value-most, of-field}

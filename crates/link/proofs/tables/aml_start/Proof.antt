@@ -1,6 +1,5 @@
 -- `link::tables::aml_start` meets its contract: the checks are the table's, and an accepted start sets the numbers of the one task.
 -- Assumes nothing.
-use Prim.Native.Nat.{_<_}
 use native.Mathlib.Omega.{arith}
 use denote.Ref.{now}
 use Rattle.link.specs.Tables.{opOf}

@@ -1,6 +1,5 @@
 -- `link::tables::aml_step` meets its contract: the checks are the table's, and an accepted step sets the numbers of the one task and the holder.
 -- Assumes nothing.
-use Prim.Native.Nat.{_<_}
 use native.Mathlib.Omega.{arith}
 use denote.Ref.{now}
 use Rattle.link.proofs.Hosted.{host-small, step-refused, step-kept, step-left, step-taken, step-region}

@@ -1,6 +1,6 @@
 -- `link::tables::start_answer` meets its contract: each arm tells which case the answer is; the count is small.
 -- Assumes nothing.
-use mathlib.Core.Path.{_≡_, sym, ap, _∙_}
+use mathlib.Core.Path.{sym, ap, _∙_}
 use native.Mathlib.Omega.{arith}
 use Rattle.link.specs.Tables.{startAnswer, startCount}
 use Rattle.link.proofs.Numbers.{by-word}

@@ -1,7 +1,6 @@
 -- `task::one::answer_after` meets its contract, by whether it was the last access, and of a write.
 -- Assumes nothing.
 use Rattle.task.proofs.Answers.{more-answer, write-answer, read-answer}
-use borrow.Author.Needs.{needs}
 use Rattle.task.proofs.one.answer_after.Statement.{statement}
 use Rattle.task.proofs.one.answer_after.Tie as tie
 

@@ -1,7 +1,6 @@
 -- `task::one::check_call` meets its contract: the checks are passed one by one, in the order of the list.
 -- Assumes nothing.
 use Rattle.task.proofs.Answers.{call-27, call-31, call-24, call-30, call-done}
-use borrow.Author.Needs.{needs}
 use Rattle.task.proofs.one.check_call.Statement.{statement}
 use Rattle.task.proofs.one.check_call.Tie as tie
 

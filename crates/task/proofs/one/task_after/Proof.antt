@@ -1,14 +1,11 @@
 -- `task::one::task_after` meets its contract: idle at its last access, and else one further.
 -- Assumes nothing.
-use mathlib.Core.Path.{_≡_, sym, ap}
+use mathlib.Core.Path.{sym, ap}
 use mathlib.Core.Bool.{Bool, true, cond}
 use Rattle.task.specs.Tasks.{idle}
 use borrow.Author.Needs.{needs}
 use Rattle.task.proofs.one.task_after.Statement.{statement}
 use Rattle.task.proofs.one.task_after.Tie as tie
-use Rattle.task.proofs.one.task_after.Reads as reads
-use Rattle.task.proofs.one.task_after.Lts as lts
-use Rattle.task.proofs.table.idle.Reads as idle-reads
 
 idle-requires : tie.Need-idle-requires
 idle-requires c κs = search needs

@@ -11,9 +11,6 @@ use Rattle.text.proofs.Over.{over-past}
 use Rattle.text.proofs.Hexes.{hex-step, hex-half, hex-done}
 use Rattle.text.proofs.written.put_pairs.Statement.{statement}
 use Rattle.text.proofs.written.put_pairs.Tie as tie
-use Rattle.text.proofs.written.put_pairs.Reads as reads
-use Rattle.text.proofs.written.put_pairs.Lts as lts
-use Rattle.text.proofs.written.hex_digit.Reads as hex-digit-reads
 
 abbrev Inv-loop : tie.InvT-loop
 Inv-loop out₀ at bytes p₀ i₀ out p i = (i ≤ length bytes) × (over out p (hexText (drop i bytes)) ≡ over out₀ at (hexText bytes)) × (length out ≡ length out₀)

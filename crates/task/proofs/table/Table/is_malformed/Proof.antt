@@ -4,9 +4,6 @@ use Rattle.task.specs.Tasks.{malformed}
 use borrow.Author.Needs.{needs}
 use Rattle.task.proofs.table.Table.is_malformed.Statement.{statement}
 use Rattle.task.proofs.table.Table.is_malformed.Tie as tie
-use Rattle.task.proofs.table.Table.is_malformed.Reads as reads
-use Rattle.task.proofs.table.Table.is_malformed.Lts as lts
-use Rattle.task.proofs.well.malformed_by.Reads as malformed-by-reads
 
 element-copy-out-a : tie.Need-element-copy-out-a
 element-copy-out-a c = search needs
