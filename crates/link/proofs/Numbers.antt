@@ -12,7 +12,8 @@ use Rattle.types.specs.declared.refusal.Types.the-variants as Carried
 use Rattle.types.specs.declared.value.AmlType.{AmlType}
 use Rattle.types.specs.declared.value.AmlType.the-variants as T
 use Rattle.link.specs.declared.answer.Answer.{Answer}
-use Rattle.link.specs.Answers.{presentOf, wantedOf, refusedBy, wordOf, ofWord}
+use Rattle.link.specs.Answers.{presentOf, wantedOf, refusedBy}
+use Rattle.link.specs.Words.{wordOf, ofWord}
 
 -- ---- each is a byte
 

@@ -1,7 +1,7 @@
 -- Document 01, "Refusal numbers": "Every refusal returns its number alone (1 adds the present and wanted types; 3, 4, 5 the type met)".
 -- What a call answers, as the numbers that a host takes. Types go by ACPI's numbers, 0 where there is none.
 -- Assumes nothing.
-use Prim.Native.Nat.{ℕ, _+_, _*_, _/_, _%_}
+use Prim.Native.Nat.{ℕ, _+_}
 use mathlib.Core.Bool.{cond}
 use Rattle.types.specs.Refusals.{numberOf, typesOf}
 use Rattle.types.specs.Values.{typeNumberOf}
@@ -55,14 +55,6 @@ wantedOf (Carried.Conversion a b) = typeNumberOf b
 
 unfoldable pub refusedBy : Refusal → Answer
 refusedBy r = record { status = numberOf r; present = presentOf (typesOf r); wanted = wantedOf (typesOf r); kind = 0; count = 0; value = 0 }
-
--- the same numbers in one: the refusal's number, the present type, the wanted type, a byte each
-unfoldable pub wordOf : Refusal → ℕ
-wordOf r = numberOf r + 256 * presentOf (typesOf r) + 65536 * wantedOf (typesOf r)
-
--- the answer that has a word's bytes
-unfoldable pub ofWord : ℕ → Answer
-ofWord w = record { status = w % 256; present = w / 256 % 256; wanted = w / 65536 % 256; kind = 0; count = 0; value = 0 }
 
 -- the host named a kind that is none: no call of the layer is made, so no number of document 01 is given
 unfoldable pub noSuchKind : Answer

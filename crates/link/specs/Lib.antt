@@ -1,4 +1,5 @@
 pub mod Answers
+pub mod Words
 pub mod Fields
 pub mod Values
 pub mod Tables

@@ -2,8 +2,9 @@
 ghost use mathlib.Core.Path.{_≡_};
 ghost use mathlib.Core.Bool.{cond};
 ghost use Prim.Native.Nat.{_≤_};
-ghost use Rattle.link.specs.Answers.{presentOf, wantedOf, wordOf, ofWord, noSuchKind, readAnswer, outcomeAnswer, unitReadAnswer, unitWrittenAnswer, readCount, writtenCount};
+ghost use Rattle.link.specs.Answers.{presentOf, wantedOf, noSuchKind, readAnswer, outcomeAnswer, unitReadAnswer, unitWrittenAnswer, readCount, writtenCount};
 ghost use Rattle.link.specs.Answers.{kindAnswer, integerAnswer, boolAnswer, bytesAnswer, typeAnswer, statusNumber, statusAnswer, compareAnswer, concatAnswer, placeAnswer, placeCount};
+ghost use Rattle.link.specs.Words.{wordOf, ofWord};
 use buffer_field::FieldRead;
 use expression::compare::CompareAnswer;
 use expression::concat::ConcatAnswer;

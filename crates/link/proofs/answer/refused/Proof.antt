@@ -1,6 +1,6 @@
 -- `link::answer::refused` meets its contract: each number is a byte of the word.
 -- Assumes nothing.
-use Rattle.link.specs.Answers.{ofWord}
+use Rattle.link.specs.Words.{ofWord}
 use borrow.Author.Needs.{needs}
 use Rattle.link.proofs.answer.refused.Statement.{statement}
 use Rattle.link.proofs.answer.refused.Tie as tie
