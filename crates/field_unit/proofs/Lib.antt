@@ -3,6 +3,7 @@ pub mod Accepted
 pub mod Units
 pub mod Listing
 pub mod Running
+pub mod Left
 pub mod Remaining
 pub mod Bounds
 pub mod Closed

@@ -5,7 +5,7 @@ use mathlib.Core.Bool.{Bool, true, false, cond, _&&_, not, true≢false}
 use mathlib.Core.List.{List, [], _∷_, _++_}
 use Prim.Native.Nat.{ℕ, _+_, _-_, _≤_, _<_}
 use Rattle.field_unit.specs.Accesses.{Plan, first, last, partly, accessesFrom, accesses}
-use Rattle.field_unit.specs.Left.{left}
+use Rattle.field_unit.proofs.Left.{left}
 use Rattle.field_unit.specs.declared.access.Access.{Access}
 use Rattle.field_unit.specs.declared.access.Access.the-variants.{Load, Store}
 use Rattle.field_unit.proofs.Units.{unit-partly, unit-stored}

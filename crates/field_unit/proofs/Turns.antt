@@ -9,7 +9,7 @@ use lib.ListN.{length}
 use Rattle.bits.specs.Bits.{bitOf}
 use Rattle.bits.proofs.With.{withBits-length}
 use Rattle.field_unit.specs.Accesses.{Plan, Progress, progress, base, first, last, unitOf, partly, accesses, merged, act, acts, whole}
-use Rattle.field_unit.specs.Left.{left}
+use Rattle.field_unit.proofs.Left.{left}
 use Rattle.field_unit.specs.declared.access.Access.{Access}
 use Rattle.field_unit.specs.declared.access.Access.the-variants.{Load, Store}
 use Rattle.field_unit.proofs.Remaining.{left-whole, left-over, left-step}

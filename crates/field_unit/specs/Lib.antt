@@ -1,4 +1,3 @@
 pub mod Checks
 pub mod Accesses
 pub mod Calls
-pub mod Left

@@ -1,5 +1,4 @@
--- What is left of a list of accesses, as a loop over them has it: from unit u on, where u was loaded already or not. No promise of a public
--- function speaks of it.
+-- What is left of a list of accesses, as a loop over them has it: from unit u on, where u was loaded already or not.
 -- Assumes nothing.
 use Prim.Native.Nat.{ℕ, _+_, _-_}
 use mathlib.Core.Bool.{Bool, true, false}
