@@ -11,7 +11,7 @@ import sys
 TOP = os.path.dirname(os.path.dirname(os.path.abspath(__file__)))
 TOKEN = re.compile(r"[^\s(){}\[\];,.@\"`λ]+")
 DEFINED = re.compile(r"^(?:abbrev |unfoldable )?(?:pub )?([^\s:(){}]+)\s*:\s")
-INNER = re.compile(r"^\s+([^\s:(){}]+)\s*:\s")
+INNER = re.compile(r"^\s+(?:abbrev |unfoldable )?(?:pub )?([^\s:(){}]+)\s*:\s")
 IMPORT = re.compile(r"^\s*(?:ghost )?(?:pub )?use ((?:Rattle\.)?[^\s.·]+)[^{]*\{([^}]*)\}")
 OURS = re.compile(r"^Rattle[.·]")
 

@@ -1,5 +1,5 @@
 -- Laws of runs of up to 64 bits in a slice, read and written through a word and a ninth byte: bit i of a run from bit r of byte at on is bit
--- r + i of the word there, or bit r + i - 64 of the byte after it (get-one, get-two); a word with the run's bits put in is the run written
+-- r + i of the word there, or bit r + i - 64 of the byte after it (get_one, get_two); a word with the run's bits put in is the run written
 -- (splice_law), and what the word does not hold the ninth byte does (set_two).
 -- Assumes nothing.
 use mathlib.Core.Path.{◌≡◌, sym, ap, ◌∙◌}
@@ -46,8 +46,8 @@ module _ (s : List ℕ) (at r : ℕ) where
       bit_of_shift (run (bit_at s) (8 * at) 64) r i ∙ run_bit (bit_at s) (bit_at_lt s) (8 * at) 64 (r + i) h ∙ ap (bit_at s) e
 
   -- the run stands in the word
-  pub get-one : (n : ℕ) → r + n ≤ 64 → run (bit_of (run (bit_at s) (8 * at) 64 / 2 ^ r)) 0 n ≡ run (bit_at s) (8 * at + r) n
-  get-one n h =
+  pub get_one : (n : ℕ) → r + n ≤ 64 → run (bit_of (run (bit_at s) (8 * at) 64 / 2 ^ r)) 0 n ≡ run (bit_at s) (8 * at + r) n
+  get_one n h =
       run_ext (bit_of (run (bit_at s) (8 * at) 64 / 2 ^ r)) (bit_at s) 0 (8 * at + r) n
       (λ i l. rw (zero-add i) (word_bit i (omega arith)))
 
@@ -72,9 +72,9 @@ module _ (s : List ℕ) (at r : ℕ) where
       omega arith)
 
   -- the run reaches into the ninth byte
-  pub get-two : (n : ℕ) → r < 8 → n ≤ 64
+  pub get_two : (n : ℕ) → r < 8 → n ≤ 64
       → run (bit_of (bit_or (run (bit_at s) (8 * at) 64 / 2 ^ r) (get_or s (at + 8) 0 * 2 ^ (64 - r) % 2 ^ 64))) 0 n ≡ run (bit_at s) (8 * at + r) n
-  get-two n q h =
+  get_two n q h =
       run_ext (bit_of (bit_or below above)) (bit_at s) 0 (8 * at + r) n
       (λ i l. rw (zero-add i) (bit_of_or below above i ∙ two_bit i q (omega arith)))
 

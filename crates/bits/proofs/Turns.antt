@@ -1,4 +1,4 @@
--- Laws of runs of any length, moved 64 bits a turn: each turn makes eight bytes more what they are to be (write-turn, read_turn), the last
+-- Laws of runs of any length, moved 64 bits a turn: each turn makes eight bytes more what they are to be (write_turn, read_turn), the last
 -- what is left, as far as there is room (write_rest, read_rest). From the top down what is read was not yet written (self_turn).
 -- Assumes nothing.
 use mathlib.Core.Path.{◌≡◌, sym, ap, ◌∙◌}
@@ -81,9 +81,9 @@ module _ (t s : List ℕ) (o n j c : ℕ) (e : c ≡ run (goal t s o n) (8 * (o 
       ∙ sym (goal_in t s o n (8 * j) (i - o % 8) (omega arith)) ∙ ap (goal t s o n) p in
       omega arith))
 
-  pub write-turn : 8 * (j + 8) ≤ n
+  pub write_turn : 8 * (j + 8) ≤ n
       → set_bits (ahead t s o n j) (8 * (o / 8 + j)) 64 (bit_or c (run (bit_at s) (8 * j) 64 * 2 ^ (o % 8) % 2 ^ 64)) ≡ ahead t s o n (j + 8)
-  write-turn h =
+  write_turn h =
       let w = bit_or c (run (bit_at s) (8 * j) 64 * 2 ^ (o % 8) % 2 ^ 64) in
       let p : 8 * (o / 8 + j) ≡ 8 * (o / 8) + 8 * j = omega arith in
       let q : 8 * j + 64 ≡ 8 * (j + 8) = omega arith in
@@ -93,8 +93,8 @@ module _ (t s : List ℕ) (o n j c : ℕ) (e : c ≡ run (goal t s o n) (8 * (o 
       ∙ ap (λ (k : ℕ). with_bits t (8 * (o / 8)) k (from (goal t s o n) (8 * (o / 8)))) q
 
   -- the bits carried at last stand where they belong
-  pub write-carry : 8 * j ≤ n → set_bits (ahead t s o n j) (8 * (o / 8 + j)) (o % 8) c ≡ with_bits t o (8 * j) (bit_at s)
-  write-carry h =
+  pub write_carry : 8 * j ≤ n → set_bits (ahead t s o n j) (8 * (o / 8 + j)) (o % 8) c ≡ with_bits t o (8 * j) (bit_at s)
+  write_carry h =
       let p : 8 * (o / 8 + j) ≡ 8 * (o / 8) + 8 * j = omega arith in
       ap (λ (k : ℕ). set_bits (ahead t s o n j) k (o % 8) c) p
       ∙ with_bits_join t (8 * (o / 8)) (8 * j) (o % 8) (from (goal t s o n) (8 * (o / 8))) (bit_of c) (λ k. goal_lt t s o n (8 * (o / 8) + k))

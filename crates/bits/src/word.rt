@@ -8,7 +8,7 @@ pub(crate) fn lesser(a: usize, b: usize) -> usize
     if a <= b { a } else { b }
 }
 
-pub fn wide(x: u8) -> u64
+pub(crate) fn wide(x: u8) -> u64
     ensures { result ≡ x }
 {
     x as u64

@@ -1,18 +1,17 @@
 -- Refusal 2: offset + length exceeds the bits there are, exactly when the length does, or the offset exceeds what the length leaves.
 -- Assumes nothing.
-use mathlib.Core.Path.{◌≡◌, refl, sym, ◌∙◌}
+use mathlib.Core.Path.{◌≡◌, sym, ◌∙◌}
 use mathlib.Core.Bool.{Bool, true, false}
+use mathlib.Core.List.{List}
 use Prim.Native.Nat.{ℕ, ◌+◌, ◌-◌, ◌*◌, ◌≤◌, ◌<◌}
 use native.Mathlib.Omega.{arith}
 use lib.Dec.{ltb}
+use lib.ListN.{length}
 use borrow.Author.Tests.{lt-ltb, le-ltb, ltb-false}
 use Rattle.bits.proofs.Laws.{lt_cases}
-use Rattle.types.specs.Limits.{most_bytes}
 use Rattle.types.specs.Refusals.{first_of}
 use Rattle.types.specs.declared.refusal.Refusal.TheVariants as R
-use Rattle.types.specs.declared.refusal.Outcome.{Outcome}
 use Rattle.types.specs.declared.refusal.Outcome.TheVariants as O
-use Rattle.types.proofs.Judging.{none_holds}
 use Rattle.buffer_field.specs.BufferFields.{out_of_bounds, bounds_checks}
 
 pub long_outside : (bits o n : ℕ) → bits < n → true ≡ ltb bits (o + n)
@@ -24,26 +23,21 @@ far_outside bits o n h =
     (λ l. lt-ltb (bits - n) o l ∙ sym (lt-ltb bits (o + n) (omega arith)))
     (λ l. le-ltb (bits - n) o l ∙ sym (le-ltb bits (o + n) (omega arith)))
 
+-- a field that was not refused lies in the buffer
+pub inside : (s : List ℕ) (o n : ℕ) (b : Bool) → b ≡ out_of_bounds s o n → b ≡ false → o + n ≤ 8 * length s
+inside s o n b e f = ltb-false (8 * length s) (o + n) (sym e ∙ f)
+
+-- ---- the checks: 27, then 2
 module _ (size o n : ℕ) where
-  -- a field that was not refused lies in the buffer
-  pub inside : (b : Bool) → b ≡ out_of_bounds size o n → b ≡ false → o + n ≤ 8 * size
-  inside b e f = ltb-false (8 * size) (o + n) (sym e ∙ f)
-
-  -- ---- the checks: 27, then 2
-  pub bounds-too-long : most_bytes < size → O.Refused R.TooManyBytes ≡ first_of (bounds_checks size o n)
+  pub bounds_too_long : 65536 < size → O.Refused R.TooManyBytes ≡ first_of (bounds_checks size o n)
   unfolding first_of bounds_checks
-  bounds-too-long l = rw (lt-ltb most_bytes size l)
+  bounds_too_long l = rw (lt-ltb 65536 size l)
 
-  module _ (b : Bool) (l : size ≤ most_bytes) (e : b ≡ out_of_bounds size o n) where
-    pub bounds-outside : b ≡ true → O.Refused R.BufferFieldIndexesOutOfBounds ≡ first_of (bounds_checks size o n)
+  module _ (b : Bool) (l : size ≤ 65536) (e : b ≡ ltb (8 * size) (o + n)) where
+    pub bounds_outside : b ≡ true → O.Refused R.BufferFieldIndexesOutOfBounds ≡ first_of (bounds_checks size o n)
     unfolding first_of bounds_checks
-    bounds-outside t = rw (le-ltb most_bytes size l, ← e, t)
+    bounds_outside t = rw (le-ltb 65536 size l, ← e, t)
 
-    pub bounds-done : b ≡ false → O.Done ≡ first_of (bounds_checks size o n)
+    pub bounds_done : b ≡ false → O.Done ≡ first_of (bounds_checks size o n)
     unfolding first_of bounds_checks
-    bounds-done f = rw (le-ltb most_bytes size l, ← e, f)
-
-  -- what the checks say where none holds
-  pub checked-inside : {x : Outcome} → x ≡ first_of (bounds_checks size o n) → x ≡ O.Done → o + n ≤ 8 * size
-  unfolding bounds_checks
-  checked-inside e d = inside false (sym (none_holds (bounds_checks size o n) (sym e ∙ d)).1.0) refl
+    bounds_done f = rw (le-ltb 65536 size l, ← e, f)

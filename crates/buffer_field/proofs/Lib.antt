@@ -1,4 +1,3 @@
 pub mod Bounds
-pub mod Fronts
 pub mod Reading
 pub mod Writing

@@ -1,70 +1,114 @@
 -- Document 01, "Buffer fields", with refusals 2, 3, 20 and 27 in the order "27 first, 20 last. .. Buffer field write: 3, 2".
 -- Assumes nothing.
-use Rattle.std.specs.Prelude.{ℕ, ◌+◌, ◌*◌, min, Bool, List, [], ◌∷◌, ltb, length}
-use Rattle.bits.specs.Bits.{bit_of, bit_at, run_bits, with_bits}
-use Rattle.bits.specs.Integers.{truth_number}
-use Rattle.types.specs.Limits.{too_many}
-use Rattle.types.specs.Refusals.{Checks}
-use Rattle.types.specs.Answers.{Answered, given, refused, ◌>>=◌, passing, lent, Meaning, Told, left}
-use Rattle.types.specs.Held.{Plain, boolean, integer, string, buffer, other, held_by, unread}
-use Rattle.types.specs.Contents.{Content, content, as_given}
+use Rattle.std.specs.Prelude.{ℕ, ◌+◌, ◌*◌, min, Bool, true, false, ◌&&◌, ◌||◌, List, [], ◌∷◌, ltb, leb, length}
+use Rattle.bits.specs.Bits.{bit_of, bit_at, get_bits, run_bits, with_bits, bytes_for}
+use Rattle.types.specs.Values.{type_of}
+use Rattle.types.specs.Refusals.{Checks, first_of, judged}
 use Rattle.types.specs.declared.refusal.Refusal.TheVariants as R
-use Rattle.types.specs.declared.value.AmlType.TheVariants as T
+use Rattle.types.specs.declared.refusal.Outcome.{Outcome}
 use Rattle.types.specs.declared.value.AmlValue.{AmlValue}
 use Rattle.types.specs.declared.value.AmlValue.TheVariants as Val
+use Rattle.buffer_field.specs.declared.FieldRead.{FieldRead}
+use Rattle.buffer_field.specs.declared.FieldRead.TheVariants as F
+
+-- "27: a lent operand, target or region .. over 65,536 bytes"
+abbrev pub too_long : List ℕ → Bool
+too_long s = ltb 65536 (length s)
 
 -- "2: offset + length, unbounded sum, exceeds 8 × bytes"
-abbrev pub out_of_bounds : ℕ → ℕ → ℕ → Bool
-out_of_bounds size o n = ltb (8 * size) (o + n)
+abbrev pub out_of_bounds : List ℕ → ℕ → ℕ → Bool
+out_of_bounds s o n = ltb (8 * length s) (o + n)
 
 -- 27, then 2: a field of a buffer of so many bytes
 unfoldable pub bounds_checks : ℕ → ℕ → ℕ → Checks
 bounds_checks size o n =
-    (too_many size, R.TooManyBytes)
-    ∷ (out_of_bounds size o n, R.BufferFieldIndexesOutOfBounds)
+    (ltb 65536 size, R.TooManyBytes)
+    ∷ (ltb (8 * size) (o + n), R.BufferFieldIndexesOutOfBounds)
     ∷ []
 
 -- ---- reading
 
--- what reading the field of n bits at o of the buffer s gives, or its own refusal
-unfoldable pub buffer_field_content : ℕ → ℕ → ℕ → List ℕ → Answered Content
-buffer_field_content w o n s = do
-  _ ← passing (bounds_checks (length s) o n)
-  given (content w n (run_bits s o n))
+-- the answer, and what the output holds after
+pub record Read : Type 0 where
+  pub answer : FieldRead
+  pub out : List ℕ
 
-unfoldable pub read_buffer_field : ℕ → ℕ → ℕ → List ℕ → Meaning
-read_buffer_field w o n s = buffer_field_content w o n s >>= as_given
+-- "Reading 0 to 64 bits gives an Integer (length 0 gives 0), more gives a Buffer of length/8 bytes rounded up, unused top bits zero."
+unfoldable pub read_value : List ℕ → ℕ → ℕ → List ℕ → Bool → Read
+read_value s o n out true = record { answer = F.Integer (get_bits s o n); out = out }
+read_value s o n out false = record { answer = F.Buffer (bytes_for n); out = with_bits out 0 (8 * bytes_for n) (run_bits s o n) }
+
+unfoldable pub read_checks : List ℕ → ℕ → ℕ → List ℕ → Checks
+read_checks s o n out =
+    (too_long s, R.TooManyBytes)
+    ∷ (out_of_bounds s o n, R.BufferFieldIndexesOutOfBounds)
+    ∷ (ltb 64 n && ltb (length out) (bytes_for n), R.OutputTooShort)
+    ∷ []
+
+unfoldable pub read : List ℕ → ℕ → ℕ → List ℕ → Read
+read s o n out =
+    judged (first_of (read_checks s o n out)) (read_value s o n out (leb n 64)) (λ r. record { answer = F.Refused r; out = out })
 
 -- ---- writing
 
--- the bits that a value writes into a field: how many of the field's, from its first on, and which
-pub record Written : Type 0 where
-  pub many : ℕ
-  pub bits : ℕ → ℕ
+-- the bits that a value writes into a field of n bits: how many of the field's, and which
+pub data Written : Type 0 where
+  over : ℕ → (ℕ → ℕ) → Written
+  nothing : Written
 
-abbrev pub over : ℕ → (ℕ → ℕ) → Answered Written
-over n f = given (record { many = n; bits = f })
+abbrev pub truth : Bool → ℕ
+truth true = 1
+truth false = 0
 
 -- "Writing an Integer or Buffer overwrites the whole field, zero-extended or truncated. A Boolean sets the field's first bit and no other; in a
--- field of length 0 it sets nothing." "3: a value other than Integer, Boolean, Buffer is written to a buffer field"
-unfoldable pub bits_of : ℕ → ℕ → Plain → Answered Written
-bits_of w n (boolean b) = over (min n 1) (bit_of (truth_number w b))
-bits_of w n (integer x) = over n (bit_of x)
-bits_of w n (string s) = refused (R.TypeCannotBeWrittenToBufferField T.String)
-bits_of w n (buffer s) = over n (bit_at s)
-bits_of w n (other t) = refused (R.TypeCannotBeWrittenToBufferField t)
+-- field of length 0 it sets nothing." 3: "a value other than Integer, Boolean, Buffer"
+abbrev pub written : AmlValue → List ℕ → ℕ → Written
+written (Val.Integer x) bytes n = over n (bit_of x)
+written Val.Buffer bytes n = over n (bit_at bytes)
+written (Val.Boolean b) bytes n = over (min n 1) (λ _. truth b)
+written Val.String bytes n = nothing
+written (Val.BufferField p m) bytes n = nothing
+written (Val.Field f) bytes n = nothing
+written Val.OpRegion bytes n = nothing
+written Val.Device bytes n = nothing
+written Val.Method bytes n = nothing
+written Val.Processor bytes n = nothing
+written Val.Mutex bytes n = nothing
+written Val.Package bytes n = nothing
+written Val.PowerResource bytes n = nothing
+written Val.ThermalZone bytes n = nothing
 
--- the buffer s after a value with its bytes t was written to the field: "3, 2"; "Bits outside stay"
-unfoldable pub buffer_written : ℕ → ℕ → ℕ → AmlValue → List ℕ → List ℕ → Answered (List ℕ)
-buffer_written w o n v t s = do
-  _ ← lent (s ∷ t ∷ [])
-  x ← bits_of w n (unread (held_by w v t))
-  _ ← passing (bounds_checks (length s) o n)
-  given (with_bits s o x.many x.bits)
+-- the buffer after it: "Bits outside stay"
+abbrev pub after : List ℕ → ℕ → Written → List ℕ
+after s o (over n g) = with_bits s o n g
+after s o nothing = s
 
-unfoldable pub write_buffer_field : ℕ → ℕ → ℕ → AmlValue → List ℕ → List ℕ → Told
-write_buffer_field w o n v t s = left (buffer_written w o n v t s) s
+abbrev pub cannot : Written → Bool
+cannot (over n g) = false
+cannot nothing = true
+
+-- the answer, and what the buffer holds after
+pub record Wrote : Type 0 where
+  pub answer : Outcome
+  pub buffer : List ℕ
+
+unfoldable pub write_checks : List ℕ → ℕ → ℕ → AmlValue → List ℕ → Checks
+write_checks s o n v bytes =
+    (too_long s || too_long bytes, R.TooManyBytes)
+    ∷ (cannot (written v bytes n), R.TypeCannotBeWrittenToBufferField (type_of v))
+    ∷ (out_of_bounds s o n, R.BufferFieldIndexesOutOfBounds)
+    ∷ []
+
+abbrev pub wrote : List ℕ → Outcome → List ℕ → Wrote
+wrote s a t = record { answer = a; buffer = judged a t (λ _. s) }
+
+-- of these bits, with the bounds alone to check
+abbrev pub write_over : List ℕ → ℕ → ℕ → Written → Wrote
+write_over s o n w = wrote s (first_of ((out_of_bounds s o n, R.BufferFieldIndexesOutOfBounds) ∷ [])) (after s o w)
+
+unfoldable pub write : List ℕ → ℕ → ℕ → AmlValue → List ℕ → Wrote
+write s o n v bytes = wrote s (first_of (write_checks s o n v bytes)) (after s o (written v bytes n))
 
 -- "A Buffer written into a field of itself is taken as it was before."
-abbrev pub write_self : ℕ → ℕ → ℕ → List ℕ → Told
-write_self w o n s = write_buffer_field w o n Val.Buffer s s
+abbrev pub write_self : List ℕ → ℕ → ℕ → Wrote
+write_self s o n = write s o n Val.Buffer s

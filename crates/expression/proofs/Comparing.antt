@@ -3,97 +3,80 @@
 use Rattle.std.proofs.Common.{◌≡◌, ℕ, zero, suc, ◌+◌, ◌-◌, ◌*◌, ◌<◌, ◌≤◌, min, Bool, List, [], ◌∷◌, length, get_or, drop, sym, refl, ap, ◌∙◌, add-one, arith, drop_of_length-le, drop-cons, le-ltb, lt-ltb}
 use denote.Enum.Declared.{tag_of}
 use types.Run.{OneOf, miss}
-use Rattle.bits.specs.Bits.{bit_of, bit_at, run, get_bits, run_bits, bytes_for, from}
-use Rattle.bits.specs.Integers.{integer_bits}
-use Rattle.bits.proofs.Laws.{lt_cases, bit_at_lt, run_bit, run_byte, run_more, run_ext, put_in, put_above, bytes_at}
-use Rattle.types.specs.Limits.{most_bytes}
+use Rattle.bits.specs.Bits.{bit_of, bit_at, run, get_bits, run_bits, bytes, bytes_for, from}
+use Rattle.bits.proofs.Laws.{lt_cases, bit_at_lt, run_bit, run_byte, run_more, run_ext, put_in, put_above, bytes_at, bytes_length}
 use Rattle.types.specs.Values.{type_of}
-use Rattle.types.specs.Answers.{Answered, refused, ◌>>=◌, Bare, less, equal, greater, gives, said, saying}
-use Rattle.types.specs.Held.{held_by}
-use Rattle.types.specs.declared.answer.Answer.{Answer}
-use Rattle.types.specs.declared.answer.Answer.TheVariants as A
+use Rattle.types.specs.declared.refusal.Refusal.{Refusal}
 use Rattle.types.specs.declared.refusal.Refusal.TheVariants as R
 use Rattle.types.specs.declared.value.AmlType.{AmlType}
 use Rattle.types.specs.declared.value.AmlValue.{AmlValue}
 use Rattle.types.specs.declared.value.AmlValue.TheVariants as Val
-use Rattle.types.specs.declared.value.FieldUnit.{FieldUnit}
-use Rattle.types.specs.contracts.answer.Answer as Ans
 use Rattle.types.specs.contracts.value.AmlValue.{the_type}
-use Rattle.types.proofs.ByKind.{by_kind}
-use Rattle.types.proofs.Lent.{lent-long, lent-second, lent_two}
-use Rattle.types.proofs.Saying.{answer_of, says, says_refused, not_integer, not_string, not_buffer, no_text, no_bytes}
-use Rattle.value.specs.Conversions.{read, read_unit, integer_of, to_integer}
-use Rattle.value.specs.Calls.{as_integer, as_buffer, as_string}
-use Rattle.value.proofs.Lent.{asBuffer-short, asString-short}
-use Rattle.value.proofs.Fields.{unit_content}
-use Rattle.expression.specs.Compare.{ordered, ordered_bytes, numbers_of, lists, compared_to, compared}
-use Rattle.expression.specs.Calls.{compare}
-use Rattle.expression.proofs.Chains.{operand, operand-refused}
-use Rattle.expression.proofs.Counting.{as_number, as_bytes, as_text, string-counted, not_field, buffer-counted, field_bytes, field_is}
-
--- ---- numbers by size
-module _ (x y : ℕ) where
-  pub order-less : x < y → said A.Less ≡ saying (gives (ordered x y equal))
-  unfolding ordered
-  order-less h = says {n = gives less} (rw (lt-ltb x y h))
-
-  module _ (l : y ≤ x) where
-    pub order-greater : y < x → said A.Greater ≡ saying (gives (ordered x y equal))
-    unfolding ordered
-    order-greater h = says {n = gives greater} (rw (le-ltb x y l, lt-ltb y x h))
-
-    pub order-equal : x ≤ y → said A.Equal ≡ saying (gives (ordered x y equal))
-    unfolding ordered
-    order-equal h = says {n = gives equal} (rw (le-ltb x y l, le-ltb y x h))
+use Rattle.types.specs.declared.value.FieldUnit.{FieldUnit}
+use Rattle.field_unit.specs.Calls.{read_field}
+use Rattle.field_unit.specs.declared.whole.UnitRead.{UnitRead}
+use Rattle.field_unit.specs.declared.whole.UnitRead.TheVariants as UR
+use Rattle.value.specs.Conversions.{Held, held_by, unit_content, content_integer, content_buffer, buffer_field_content, to_integer, to_buffer, to_string}
+use Rattle.value.specs.Lengths.{length_of, buffer_length, string_length}
+use Rattle.value.specs.declared.convert.IntegerAnswer.{IntegerAnswer}
+use Rattle.value.specs.declared.convert.IntegerAnswer.TheVariants as IA
+use Rattle.value.specs.declared.convert.LengthAnswer.{LengthAnswer}
+use Rattle.value.specs.declared.convert.LengthAnswer.TheVariants as LA
+use Rattle.value.proofs.ByKind.{buffer_of_buffer_field}
+use Rattle.value.proofs.Fields.{content_bytes}
+use Rattle.value.proofs.Lengths.{buffer_counted, string_counted}
+use Rattle.expression.specs.Numbers.{and_then, operands}
+use Rattle.expression.specs.declared.number.Operands.{Operands}
+use Rattle.expression.specs.declared.number.Operands.TheVariants as Op
+use Rattle.expression.specs.Compare.{compare_numbers, compare_bytes, compared_operands, numbers, texts, contents, compared, compare}
+use Rattle.expression.proofs.Counting.{counted_none, only_string, only_buffer, not_field, field_long}
+use Rattle.expression.proofs.Lent.{both_long, both_second, both_short}
+use Rattle.expression.proofs.Numbers.{operands_short}
+use Rattle.expression.specs.declared.compare.CompareAnswer.{CompareAnswer}
+use Rattle.expression.specs.declared.compare.CompareAnswer.TheVariants as C
 
 -- ---- bytes
 
 -- i bytes are passed: what is left decides
 abbrev pub Undecided : List ℕ → List ℕ → ℕ → Type 0
-Undecided l r i = ordered_bytes (drop i l) (drop i r) ≡ ordered_bytes l r
+Undecided l r i = compare_bytes (drop i l) (drop i r) ≡ compare_bytes l r
 
 module _ (l r : List ℕ) (i : ℕ) (u : Undecided l r i) where
-  decided : (b : Bare) → b ≡ ordered_bytes l r → said (answer_of (gives b)) ≡ saying (gives (ordered_bytes l r))
-  decided b e = says {n = gives b} (ap gives (sym e))
-
   module _ (h : i < length l) where
-    pub right-ends : length r ≤ i → said A.Greater ≡ saying (gives (ordered_bytes l r))
-    unfolding ordered_bytes
-    right-ends g = decided greater (rw (drop-cons l i 0 h, drop_of_length-le r g) at u)
+    pub right_ends : length r ≤ i → C.Greater ≡ compare_bytes l r
+    unfolding compare_bytes
+    right_ends g = rw (drop-cons l i 0 h, drop_of_length-le r g) at u
 
     module _ (g : i < length r) (x y : ℕ) (p : x ≡ get_or l i 0) (q : y ≡ get_or r i 0) where
-      heads : ordered_bytes (get_or l i 0 ∷ drop (suc i) l) (get_or r i 0 ∷ drop (suc i) r) ≡ ordered_bytes l r
+      heads : compare_bytes (get_or l i 0 ∷ drop (suc i) l) (get_or r i 0 ∷ drop (suc i) r) ≡ compare_bytes l r
       heads = rw (drop-cons l i 0 h, drop-cons r i 0 g) at u
 
-      pub byte-less : x < y → said A.Less ≡ saying (gives (ordered_bytes l r))
-      unfolding ordered_bytes ordered
-      byte-less b =
-          let k : get_or l i 0 < get_or r i 0 = omega arith in
-          decided less (rw (lt-ltb (get_or l i 0) (get_or r i 0) k) at heads)
+      pub byte_less : x < y → C.Less ≡ compare_bytes l r
+      unfolding compare_bytes
+      byte_less b = let k : get_or l i 0 < get_or r i 0 = omega arith in rw (lt-ltb (get_or l i 0) (get_or r i 0) k) at heads
 
-      module _ (b : y ≤ x) where
-        pub byte-greater : y < x → said A.Greater ≡ saying (gives (ordered_bytes l r))
-        unfolding ordered_bytes ordered
-        byte-greater c =
-            let k : get_or r i 0 < get_or l i 0 = omega arith in
-            let n : get_or r i 0 ≤ get_or l i 0 = omega arith in
-            decided greater (rw (le-ltb (get_or l i 0) (get_or r i 0) n, lt-ltb (get_or r i 0) (get_or l i 0) k) at heads)
+      pub byte_greater : y < x → C.Greater ≡ compare_bytes l r
+      unfolding compare_bytes
+      byte_greater b =
+          let k : get_or r i 0 < get_or l i 0 = omega arith in
+          let n : get_or r i 0 ≤ get_or l i 0 = omega arith in
+          rw (le-ltb (get_or l i 0) (get_or r i 0) n, lt-ltb (get_or r i 0) (get_or l i 0) k) at heads
 
-        pub byte-same : x ≤ y → Undecided l r (i + 1)
-        unfolding ordered_bytes ordered
-        byte-same c =
-            let n : get_or r i 0 ≤ get_or l i 0 = omega arith in
-            let m : get_or l i 0 ≤ get_or r i 0 = omega arith in
-            rw add-one (rw (le-ltb (get_or l i 0) (get_or r i 0) n, le-ltb (get_or r i 0) (get_or l i 0) m) at heads)
+      pub byte_same : y ≤ x → x ≤ y → Undecided l r (i + 1)
+      unfolding compare_bytes
+      byte_same b c =
+          let n : get_or r i 0 ≤ get_or l i 0 = omega arith in
+          let m : get_or l i 0 ≤ get_or r i 0 = omega arith in
+          rw add-one (rw (le-ltb (get_or l i 0) (get_or r i 0) n, le-ltb (get_or r i 0) (get_or l i 0) m) at heads)
 
   module _ (h : length l ≤ i) where
-    pub left-ends : i < length r → said A.Less ≡ saying (gives (ordered_bytes l r))
-    unfolding ordered_bytes
-    left-ends g = decided less (rw (drop_of_length-le l h, drop-cons r i 0 g) at u)
+    pub left_ends : i < length r → C.Less ≡ compare_bytes l r
+    unfolding compare_bytes
+    left_ends g = rw (drop_of_length-le l h, drop-cons r i 0 g) at u
 
-    pub both_end : length r ≤ i → said A.Equal ≡ saying (gives (ordered_bytes l r))
-    unfolding ordered_bytes
-    both_end g = decided equal (rw (drop_of_length-le l h, drop_of_length-le r g) at u)
+    pub both_end : length r ≤ i → C.Equal ≡ compare_bytes l r
+    unfolding compare_bytes
+    both_end g = rw (drop_of_length-le l h, drop_of_length-le r g) at u
 
 -- ---- eight bytes
 
@@ -120,7 +103,7 @@ module _ (l r : List ℕ) (i : ℕ) (bl : (j : ℕ) → get_or l j 0 < 256) (br 
     passed (suc k) c =
         let b = byte_of_both k (omega arith) in
         let z : i + k + 1 ≡ i + suc k = omega arith in
-        rw z at (byte-same l r (i + k) (passed k (omega arith)) (omega arith) (omega arith) (get_or l (i + k) 0) (get_or r (i + k) 0) refl refl (omega arith) (omega arith))
+        rw z at (byte_same l r (i + k) (passed k (omega arith)) (omega arith) (omega arith) (get_or l (i + k) 0) (get_or r (i + k) 0) refl refl (omega arith) (omega arith))
 
     pub words_same : Undecided l r (i + 8)
     words_same = passed 8 (omega arith)
@@ -134,8 +117,8 @@ module _ (t : List ℕ) (o n i : ℕ) where
       let d : o + (0 + 8 * i + k - 0) ≡ o + 8 * i + k = omega arith in
       sym (put_in (λ _. 0) 0 n (from (bit_at t) o) (0 + 8 * i + k) (omega arith) (omega arith) ∙ ap (bit_at t) d))
 
-  pub byte-of-field : 8 * i < n → (r : ℕ) → r ≡ get_bits t (o + 8 * i) (min 8 (n - 8 * i)) → r ≡ get_or (field_bytes t o n) i 0
-  byte-of-field h r g =
+  pub byte_of_field : 8 * i < n → (r : ℕ) → r ≡ get_bits t (o + 8 * i) (min 8 (n - 8 * i)) → r ≡ get_or (bytes (run_bits t o n) 0 (bytes_for n)) i 0
+  byte_of_field h r g =
       g
       ∙ lt_cases (n - 8 * i) 8 (get_bits t (o + 8 * i) (min 8 (n - 8 * i)) ≡ run (run_bits t o n) (0 + 8 * i) 8)
       (λ few.
@@ -154,88 +137,129 @@ few_bits t o n r h e = let m : min n 64 ≡ min 8 n = omega arith in e ∙ ap (g
 pub eight_bits : (t : List ℕ) (o n r : ℕ) → 8 ≤ n → r ≡ get_bits t o (min 8 64) → r ≡ get_bits t o (min 8 n)
 eight_bits t o n r h e = let m : min 8 64 ≡ min 8 n = omega arith in e ∙ ap (get_bits t o) m
 
--- ---- two numbers, or what converting refused
+-- ---- numbers
+module _ (both : Operands) where
+  pub compared_refused : (q : Refusal) → both ≡ Op.Refused q → C.Refused q ≡ compared_operands both
+  compared_refused q e = rw e
 
-module _ (a : AmlValue) (s : List ℕ) (h : length s ≤ most_bytes) (one : Answer) (e : said one ≡ saying (as_integer integer_bits a s)) where
-  pub numbers-left : (right : Answered ℕ) → OneOf not_integer (tag_of Ans.the_type one) → said one ≡ saying (numbers_of (as_number a s) right)
-  numbers-left right k = operand-refused integer_bits a s h one e k (λ x. right >>= λ y. gives (ordered x y equal))
+  module _ (x y : ℕ) (e : both ≡ Op.Two x y) where
+    pub compared_less : x < y → C.Less ≡ compared_operands both
+    compared_less h = rw (e, lt-ltb x y h)
 
-  module _ (x : ℕ) (d : one ≡ A.Integer x) (b : AmlValue) (t : List ℕ) (g : length t ≤ most_bytes) (two : Answer)
-      (f : said two ≡ saying (as_integer integer_bits b t)) where
-    pub numbers-right : OneOf not_integer (tag_of Ans.the_type two) → said two ≡ saying (numbers_of (as_number a s) (as_number b t))
-    numbers-right k = rw (operand integer_bits a s h one e x d) (operand-refused integer_bits b t g two f k (λ y. gives (ordered x y equal)))
+    pub compared_greater : y ≤ x → y < x → C.Greater ≡ compared_operands both
+    compared_greater l h = rw (e, le-ltb x y l, lt-ltb y x h)
 
-    pub numbers-both : (y : ℕ) → two ≡ A.Integer y → numbers_of (as_number a s) (as_number b t) ≡ gives (ordered x y equal)
-    numbers-both y k = rw (operand integer_bits a s h one e x d, operand integer_bits b t g two f y k)
+    pub compared_equal : y ≤ x → x ≤ y → C.Equal ≡ compared_operands both
+    compared_equal l h = rw (e, le-ltb x y l, le-ltb y x h)
 
 -- ---- the right side's conversion, by its length
 
-module _ (l : List ℕ) (v : AmlValue) (t : List ℕ) (h : length t ≤ most_bytes) (counted : Answer) where
-  module _ (e : said counted ≡ saying (as_string integer_bits v t)) where
-    pub string-refused : OneOf not_string (tag_of Ans.the_type counted) → said counted ≡ saying (lists l (as_text v t))
-    string-refused k = no_text counted (as_text v t) (rw (asString-short integer_bits v t h) at e) k (λ r p q. rw (p, q) (says_refused r refl))
+module _ (l : List ℕ) (v : AmlValue) (t : List ℕ) (h : length t ≤ 65536) (counted : LengthAnswer) where
+  module _ (e : counted ≡ string_length v t) where
+    pub string_refused : (q : Refusal) → counted ≡ LA.Refused q → (r : Refusal) → ((p : Refusal) → counted ≡ LA.Refused p → r ≡ p)
+        → C.Refused r ≡ texts l (to_string (held_by v t))
+    string_refused q d r g = rw (g q d, counted_none (to_string (held_by v t)) q (string_counted v t h ∙ sym e ∙ d))
 
-    pub string-compared : (n : ℕ) → counted ≡ A.String n → lists l (as_text v t) ≡ gives (ordered_bytes l t)
-    string-compared n d = rw (string-counted v t h counted n e d)
+    pub string_compared : (n : ℕ) → counted ≡ LA.Length n → (r : CompareAnswer) → r ≡ compare_bytes l t → r ≡ texts l (to_string (held_by v t))
+    string_compared n d r g = g ∙ rw (only_string v t n (string_counted v t h ∙ sym e ∙ d))
 
-  module _ (e : said counted ≡ saying (as_buffer integer_bits v t)) where
-    pub buffer-refused : OneOf not_buffer (tag_of Ans.the_type counted) → said counted ≡ saying (lists l (as_bytes v t))
-    buffer-refused k = no_bytes counted (as_bytes v t) (rw (asBuffer-short integer_bits v t h) at e) k (λ r p q. rw (p, q) (says_refused r refl))
+  module _ (e : counted ≡ buffer_length v t) where
+    pub buffer_refused : (q : Refusal) → counted ≡ LA.Refused q → (r : Refusal) → ((p : Refusal) → counted ≡ LA.Refused p → r ≡ p)
+        → C.Refused r ≡ texts l (to_buffer (held_by v t))
+    buffer_refused q d r g = rw (g q d, counted_none (to_buffer (held_by v t)) q (buffer_counted v t h ∙ sym e ∙ d))
 
-    module _ (n : ℕ) (d : counted ≡ A.Buffer n) where
-      pub buffer-compared : OneOf not_field (tag_of the_type v) → lists l (as_bytes v t) ≡ gives (ordered_bytes l t)
-      buffer-compared k = rw (buffer-counted v t h counted n e d k)
+    module _ (n : ℕ) (d : counted ≡ LA.Length n) where
+      pub buffer_compared : OneOf not_field (tag_of the_type v) → (r : CompareAnswer) → r ≡ compare_bytes l t → r ≡ texts l (to_buffer (held_by v t))
+      buffer_compared k r g = g ∙ rw (only_buffer v t n k (buffer_counted v t h ∙ sym e ∙ d))
 
-      pub field-compared : (o m : ℕ) → v ≡ Val.BufferField o m → lists l (as_bytes v t) ≡ gives (ordered_bytes l (field_bytes t o m))
-      field-compared o m k = rw (field_is v t h counted n e d o m k)
+      module _ (o m : ℕ) (k : v ≡ Val.BufferField o m) where
+        held : length_of (content_buffer (buffer_field_content o m t)) ≡ LA.Length n
+        held = rw (k, buffer_of_buffer_field) at (buffer_counted v t h ∙ sym e ∙ d)
+
+        pub field_inside : (o + m ≤ 8 * length t) × (length t ≤ 65536) × (n ≡ bytes_for m)
+        field_inside =
+            let b = field_long o m n t held in
+            let c : LA.Length (length (bytes (run_bits t o m) 0 (bytes_for m))) ≡ LA.Length n = rw (content_bytes o m t b.0 b.1) at held in
+            let f : length (bytes (run_bits t o m) 0 (bytes_for m)) ≡ n = cc in
+            (b.0, h, omega (arith, bytes_length (run_bits t o m) 0 (bytes_for m)))
+
+        pub field_compared : (r : CompareAnswer) → r ≡ compare_bytes l (bytes (run_bits t o m) 0 (bytes_for m)) → r ≡ texts l (to_buffer (held_by v t))
+        field_compared r g = let b = field_long o m n t held in g ∙ rw (k, buffer_of_buffer_field, content_bytes o m t b.0 b.1)
 
 -- ---- by the left side
+
+-- a left side that counts as its integer, against the right
+abbrev counts : Held → Held → CompareAnswer
+counts a b = and_then (to_integer a) (λ x. numbers x b) C.Refused
+
+by_operands : (x y : IntegerAnswer)
+    → compared_operands (and_then x (λ i. and_then y (Op.Two i) Op.Refused) Op.Refused) ≡ and_then x (λ i. and_then y (compare_numbers i) C.Refused) C.Refused
+by_operands (IA.Refused r) y = refl
+by_operands (IA.Integer i) (IA.Refused r) = refl
+by_operands (IA.Integer i) (IA.Integer n) = refl
+
+by_unit : (u : UnitRead) (b : Held) → contents (unit_content u) b ≡ and_then (content_integer (unit_content u)) (λ x. numbers x b) C.Refused
+by_unit (UR.Value v n) b = refl
+by_unit (UR.Refused r) b = refl
 
 -- all but Boolean, Integer, String, Buffer, Field
 abbrev pub uncompared : List ℕ
 uncompared = 4 ∷ 6 ∷ 7 ∷ 8 ∷ 9 ∷ 10 ∷ 11 ∷ 12 ∷ 13 ∷ []
 
+cannot_compare : (v : AmlValue) (s : List ℕ) (b : Held) → OneOf uncompared (tag_of the_type v) → compared (held_by v s) b ≡ C.Refused (R.TypeCannotBeCompared (type_of v))
+unfolding compared
+cannot_compare (Val.Boolean x) s b k = absurd (miss uncompared 0 tt k)
+cannot_compare (Val.Integer x) s b k = absurd (miss uncompared 1 tt k)
+cannot_compare Val.String s b k = absurd (miss uncompared 2 tt k)
+cannot_compare Val.Buffer s b k = absurd (miss uncompared 3 tt k)
+cannot_compare (Val.Field f) s b k = absurd (miss uncompared 5 tt k)
+cannot_compare (Val.BufferField o m) s b k = refl
+cannot_compare Val.OpRegion s b k = refl
+cannot_compare Val.Device s b k = refl
+cannot_compare Val.Method s b k = refl
+cannot_compare Val.Processor s b k = refl
+cannot_compare Val.Mutex s b k = refl
+cannot_compare Val.Package s b k = refl
+cannot_compare Val.PowerResource s b k = refl
+cannot_compare Val.ThermalZone s b k = refl
+
 module _ (a : AmlValue) (s : List ℕ) (b : AmlValue) (t : List ℕ) where
-  pub left-long : most_bytes < length s → compare integer_bits a s b t ≡ refused R.TooManyBytes
+  pub left_long : 65536 < length s → C.Refused R.TooManyBytes ≡ compare a s b t
   unfolding compare
-  left-long h = lent-long s (t ∷ []) _ h
+  left_long h = sym (both_long s t _ C.Refused h)
 
-  module _ (h : length s ≤ most_bytes) where
-    pub right-long : most_bytes < length t → compare integer_bits a s b t ≡ refused R.TooManyBytes
+  pub right_long : 65536 < length t → C.Refused R.TooManyBytes ≡ compare a s b t
+  unfolding compare
+  right_long h = sym (both_second s t _ C.Refused h)
+
+  module _ (h : length s ≤ 65536) (g : length t ≤ 65536) where
+    by_left : compared (held_by a s) (held_by b t) ≡ compare a s b t
     unfolding compare
-    right-long g = lent-second s t _ h g
+    by_left = sym (both_short s t _ C.Refused h g)
 
-    module _ (g : length t ≤ most_bytes) where
-      by_left : compare integer_bits a s b t ≡ compared integer_bits (held_by integer_bits a s) (held_by integer_bits b t)
-      unfolding compare
-      by_left = lent_two s t _ h g
+    pub left_string : a ≡ Val.String → (r : CompareAnswer) → r ≡ texts s (to_string (held_by b t)) → r ≡ compare a s b t
+    unfolding compared
+    left_string k r e = e ∙ rw (← by_left, k)
 
-      pub left-boolean : (x : Bool) → a ≡ Val.Boolean x → compare integer_bits a s b t ≡ numbers_of (as_number a s) (as_number b t)
-      unfolding compared compared_to read_unit to_integer read
-      left-boolean x k = by_left ∙ rw k
+    pub left_buffer : a ≡ Val.Buffer → (r : CompareAnswer) → r ≡ texts s (to_buffer (held_by b t)) → r ≡ compare a s b t
+    unfolding compared
+    left_buffer k r e = e ∙ rw (← by_left, k)
 
-      pub left-integer : (x : ℕ) → a ≡ Val.Integer x → compare integer_bits a s b t ≡ numbers_of (as_number a s) (as_number b t)
-      unfolding compared compared_to read_unit to_integer read
-      left-integer x k = by_left ∙ rw k
+    pub left_other : OneOf uncompared (tag_of the_type a) → (m : AmlType) → m ≡ type_of a → C.Refused (R.TypeCannotBeCompared m) ≡ compare a s b t
+    left_other k m e = rw (e, ← by_left) (sym (cannot_compare a s (held_by b t) k))
 
-      pub left-unit : (f : FieldUnit) → a ≡ Val.Field f → compare integer_bits a s b t ≡ numbers_of (as_number a s) (as_number b t)
-      unfolding compared compared_to read_unit to_integer read integer_of
-      left-unit f k = by_left ∙ rw k (unit_content f s (λ n d. rw d) (λ q d. rw d))
+    module _ (both : Operands) (e : both ≡ operands a s b t) (r : CompareAnswer) (c : r ≡ compared_operands both) where
+      by_number : compared (held_by a s) (held_by b t) ≡ counts (held_by a s) (held_by b t) → r ≡ compare a s b t
+      by_number n = c ∙ rw (e, operands_short a s b t h g) (by_operands (to_integer (held_by a s)) (to_integer (held_by b t))) ∙ sym n ∙ by_left
 
-      pub left-string : a ≡ Val.String → compare integer_bits a s b t ≡ lists s (as_text b t)
-      unfolding compared compared_to read_unit
-      left-string k = by_left ∙ rw k
+      pub left_boolean : (x : Bool) → a ≡ Val.Boolean x → r ≡ compare a s b t
+      unfolding compared to_integer
+      left_boolean x k = by_number (rw k)
 
-      pub left-buffer : a ≡ Val.Buffer → compare integer_bits a s b t ≡ lists s (as_bytes b t)
-      unfolding compared compared_to read_unit
-      left-buffer k = by_left ∙ rw k
+      pub left_integer : (x : ℕ) → a ≡ Val.Integer x → r ≡ compare a s b t
+      unfolding compared to_integer
+      left_integer x k = by_number (rw k)
 
-      pub left_other : OneOf uncompared (tag_of the_type a) → (m : AmlType) → m ≡ type_of a
-          → compare integer_bits a s b t ≡ refused (R.TypeCannotBeCompared m)
-      unfolding compared compared_to read_unit
-      left_other k m e =
-          by_left
-          ∙ by_kind (OneOf uncompared) (λ x. compared integer_bits x (held_by integer_bits b t)) (λ t. refused (R.TypeCannotBeCompared t)) integer_bits s
-          (λ b k. absurd (miss uncompared 0 tt k)) (λ n k. absurd (miss uncompared 1 tt k)) (λ k. absurd (miss uncompared 2 tt k))
-          (λ k. absurd (miss uncompared 3 tt k)) (λ o n k. refl) (λ u k. absurd (miss uncompared 5 tt k)) (λ t. refl) a k
-          ∙ ap (λ t. refused (R.TypeCannotBeCompared t)) (sym e)
+      pub left_unit : (f : FieldUnit) → a ≡ Val.Field f → r ≡ compare a s b t
+      unfolding compared to_integer
+      left_unit f k = by_number (rw k (by_unit (read_field s f) (held_by b t)))

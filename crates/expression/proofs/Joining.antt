@@ -1,195 +1,219 @@
 -- Concat: two texts, buffers or numbers one behind the other at the front of the output, or the first refusal; 20 last.
 -- Assumes nothing.
-use Rattle.std.proofs.Common.{◌≡◌, ℕ, ◌+◌, ◌-◌, ◌<◌, ◌≤◌, Bool, List, [], ◌∷◌, ◌++◌, length, get_or, take, drop, sym, refl, ◌∙◌, arith, length-append, length-drop, get_or-drop}
+use Rattle.std.proofs.Common.{◌≡◌, ℕ, ◌+◌, ◌-◌, ◌<◌, ◌≤◌, Bool, List, [], ◌∷◌, ◌++◌, length, get_or, take, drop, sym, refl, ap, ◌∙◌, arith, length-append, length-drop, get_or-drop}
 use denote.Enum.Declared.{tag_of}
 use types.Run.{OneOf, miss}
 use borrow.Rule.Slice.PartMut.{put_mid}
 use Rattle.bits.specs.Bits.{bit_of, set_bits}
-use Rattle.bits.specs.Integers.{integer_bits, bytes_of}
 use Rattle.bits.proofs.Laws.{bytes_length}
-use Rattle.types.specs.Limits.{most_bytes}
-use Rattle.types.specs.Answers.{Answered, given, refused, text, bytes, Meaning, a_string, a_buffer, said, saying, told, into, delivered}
-use Rattle.types.specs.Held.{Held, held_by, unread}
-use Rattle.types.specs.declared.answer.Answer.{Answer}
-use Rattle.types.specs.declared.answer.Answer.TheVariants as A
+use Rattle.types.specs.declared.refusal.Refusal.{Refusal}
 use Rattle.types.specs.declared.refusal.Refusal.TheVariants as R
 use Rattle.types.specs.declared.value.AmlValue.{AmlValue}
 use Rattle.types.specs.declared.value.AmlValue.TheVariants as Val
-use Rattle.types.specs.contracts.answer.Answer as Ans
-use Rattle.types.specs.contracts.value.AmlValue.{the_type}
-use Rattle.types.proofs.Lent.{lent-long, lent-second, lent_two}
-use Rattle.types.proofs.Saying.{delivers_refused, hears_text, not_integer, not_string, not_buffer, no_text, no_bytes}
-use Rattle.buffer_field.proofs.Fronts.{bits_into, copied}
-use Rattle.value.specs.Conversions.{read, to_integer}
-use Rattle.value.specs.Calls.{as_integer, as_buffer}
-use Rattle.value.proofs.Lent.{asBuffer-short}
-use Rattle.expression.specs.Concat.{text_of, join_numbers, join_bytes, join_texts, joined_to, joined}
-use Rattle.expression.specs.Calls.{concat}
-use Rattle.expression.proofs.Chains.{operand, no_operand}
-use Rattle.expression.proofs.Counting.{as_number, as_bytes, bytes_counted}
-use Rattle.expression.proofs.EveryKind.{every-kind}
-use Rattle.expression.proofs.Pieces.{lands, rest, no-room-first, no-room-second, both-given}
+use Rattle.types.specs.contracts.value.AmlValue as AmlValue
+use Rattle.value.specs.Conversions.{Held, held_by, to_integer, to_buffer, Bytes, these, Given, given, giving, into, as_buffer}
+use Rattle.value.specs.Lengths.{length_of, buffer_length}
+use Rattle.value.specs.declared.convert.IntegerAnswer.{IntegerAnswer}
+use Rattle.value.specs.declared.convert.IntegerAnswer.TheVariants as IA
+use Rattle.value.specs.declared.convert.LengthAnswer.{LengthAnswer}
+use Rattle.value.specs.declared.convert.LengthAnswer.TheVariants as LA
+use Rattle.value.proofs.Giving.{bits_into, giving_short, giving_these}
+use Rattle.value.proofs.Lengths.{buffer_counted}
+use Rattle.value.proofs.Lent.{as_buffer_short}
+use Rattle.expression.specs.Numbers.{and_then, operands}
+use Rattle.expression.specs.declared.number.Operands.{Operands}
+use Rattle.expression.specs.declared.number.Operands.TheVariants as Op
+use Rattle.expression.specs.Concat.{text_of, text_bytes, Joined, a_buffer, a_string, refused, number_bytes, join_numbers, join_operands, join_buffers, join_texts, join_both, joined, concatenated, delivered, concat}
+use Rattle.expression.specs.declared.concat.ConcatAnswer.{ConcatAnswer}
+use Rattle.expression.specs.declared.concat.ConcatAnswer.TheVariants as C
+use Rattle.expression.proofs.Lent.{both_long, both_second, both_short}
+use Rattle.expression.proofs.Numbers.{operands_short}
+use Rattle.expression.proofs.Counting.{counted_these, counted_length, counted_none}
+use Rattle.expression.proofs.Filling.{copied, rest, pieces}
+
+-- ---- two lists and an output
+module _ (l r out : List ℕ) where
+  no_room_left : length out < length l → giving (these (l ++ r)) out ≡ given (LA.Refused R.OutputTooShort) out
+  no_room_left h = giving_short (l ++ r) out (omega (arith, length-append l r))
+
+  no_room_right : length out - length l < length r → giving (these (l ++ r)) out ≡ given (LA.Refused R.OutputTooShort) out
+  no_room_right h = giving_short (l ++ r) out (omega (arith, length-append l r))
+
+  room : length l ≤ length out → length r ≤ length out - length l → giving (these (l ++ r)) out ≡ given (LA.Length (length l + length r)) (into (l ++ r) out)
+  room h g = giving_these (l ++ r) out (omega (arith, length-append l r)) ∙ ap (λ (n : ℕ). given (LA.Length n) (into (l ++ r) out)) (length-append l r)
 
 -- ---- numbers
 
-eight : (x : ℕ) → length (bytes_of integer_bits x) ≡ 8
-unfolding bytes_of
+eight : (x : ℕ) → length (number_bytes x) ≡ 8
 eight x = bytes_length (bit_of x) 0 8
 
-module _ (x y : ℕ) (out : List ℕ) where
-  abbrev both : Meaning
-  both = a_buffer (join_numbers integer_bits (given x) (given y))
+module _ (both : Operands) (out : List ℕ) where
+  pub numbers_refused : (q : Refusal) → both ≡ Op.Refused q → concatenated (C.Refused q) out ≡ delivered (join_operands both) out
+  numbers_refused q e = rw e
 
-  abbrev first : List ℕ
-  first = bytes_of integer_bits x
+  module _ (x y : ℕ) (e : both ≡ Op.Two x y) where
+    pub numbers_no_room : length out < 16 → concatenated (C.Refused R.OutputTooShort) out ≡ delivered (join_operands both) out
+    numbers_no_room h =
+        rw (e, giving_short (number_bytes x ++ number_bytes y) out (omega (arith, length-append (number_bytes x) (number_bytes y), eight x, eight y)))
 
-  abbrev second : List ℕ
-  second = bytes_of integer_bits y
-
-  pub numbers-no-room : length out < 16 → told (said (A.Refused R.OutputTooShort)) out ≡ delivered both out
-  numbers-no-room h = no-room-second (bytes (first ++ second)) first second refl both refl out (omega (arith, eight x, eight y))
-
-  pub numbers-done : 16 ≤ length out → ((j : ℕ) → get_or out j 0 < 256) → (t : List ℕ) → t ≡ set_bits out 0 64 x
-      → (ys : List ℕ) → ys ≡ set_bits (take (length t - 8) (drop 8 t)) 0 64 y
-      → told (said (A.Buffer 16)) (put_mid 8 (length t - 8) t ys) ≡ delivered both out
-  unfolding bytes_of
-  numbers-done h b t p ys q =
-      let f : t ≡ into first out = p ∙ bits_into out 8 (bit_of x) b (omega arith) in
-      let s = rest first second out t f (omega (arith, eight x)) 8 (sym (eight x)) in
-      let g : ys ≡ into second (take (length t - 8) (drop 8 t)) =
-      q ∙ rw s (bits_into (drop 8 out) 8 (bit_of y) (λ j. rw get_or-drop (b (8 + j))) (omega (arith, length-drop 8 out))) in
-      let n : length (first ++ second) ≡ 16 = length-append first second ∙ omega (arith, eight x, eight y) in
-      rw n at
-      (both-given (bytes (first ++ second)) first second refl both refl out (omega (arith, eight x)) (omega (arith, eight x, eight y)) 8 (sym (eight x)) t f ys g)
-
--- two numbers, or what converting refused
-module _ (a : AmlValue) (s : List ℕ) (h : length s ≤ most_bytes) (one : Answer) (e : said one ≡ saying (as_integer integer_bits a s)) where
-  pub numbers-left : (right : Answered ℕ) (out : List ℕ) → OneOf not_integer (tag_of Ans.the_type one)
-      → told (said one) out ≡ delivered (a_buffer (join_numbers integer_bits (as_number a s) right)) out
-  numbers-left right out k = no_operand integer_bits a s h one e k (λ r p q. rw p (delivers_refused r out (rw q)))
-
-  module _ (x : ℕ) (d : one ≡ A.Integer x) (b : AmlValue) (t : List ℕ) (g : length t ≤ most_bytes) (two : Answer)
-      (f : said two ≡ saying (as_integer integer_bits b t)) where
-    pub numbers-right : (out : List ℕ) → OneOf not_integer (tag_of Ans.the_type two)
-        → told (said two) out ≡ delivered (a_buffer (join_numbers integer_bits (as_number a s) (as_number b t))) out
-    numbers-right out k =
-        no_operand integer_bits b t g two f k (λ r p q. rw p (delivers_refused r out (rw (operand integer_bits a s h one e x d, q))))
-
-    pub numbers-both : (y : ℕ) → two ≡ A.Integer y
-        → a_buffer (join_numbers integer_bits (as_number a s) (as_number b t)) ≡ a_buffer (join_numbers integer_bits (given x) (given y))
-    numbers-both y k = rw (operand integer_bits a s h one e x d, operand integer_bits b t g two f y k)
+    pub numbers_done : 16 ≤ length out → ((j : ℕ) → get_or out j 0 < 256) → (t : List ℕ) → t ≡ set_bits out 0 64 x
+        → (ys : List ℕ) → ys ≡ set_bits (take (length t - 8) (drop 8 t)) 0 64 y
+        → concatenated (C.Buffer 16) (put_mid 8 (length t - 8) t ys) ≡ delivered (join_operands both) out
+    numbers_done h b t p ys q =
+        let f = p ∙ bits_into out 8 (bit_of x) b (omega arith) in
+        let s = rest (number_bytes x) (number_bytes y) out t f (omega (arith, eight x)) 8 (sym (eight x)) in
+        let g : ys ≡ into (number_bytes y) (take (length t - 8) (drop 8 t)) =
+        q ∙ rw s (bits_into (drop 8 out) 8 (bit_of y) (λ j. rw get_or-drop (b (8 + j))) (omega (arith, length-drop 8 out))) in
+        rw (
+          e,
+          pieces (number_bytes x) (number_bytes y) out t f (omega (arith, eight x)) 8 (sym (eight x)) ys g,
+          room (number_bytes x) (number_bytes y) out (omega (arith, eight x)) (omega (arith, eight x, eight y)),
+          eight x,
+          eight y,
+        )
 
 -- ---- texts
+module _ (a b : Bytes) (out : List ℕ) (first : LengthAnswer) (e : first ≡ length_of a) where
+  pub texts_left : (q : Refusal) → first ≡ LA.Refused q → (r : Refusal) → ((p : Refusal) → first ≡ LA.Refused p → r ≡ p)
+      → concatenated (C.Refused r) out ≡ delivered (join_both a b) out
+  texts_left q d r g = rw (g q d, counted_none a q (sym e ∙ d))
 
-abbrev text_in : AmlValue → List ℕ → Answered (List ℕ)
-text_in v s = text_of integer_bits (unread (held_by integer_bits v s))
+  module _ (n : ℕ) (d : first ≡ LA.Length n) (second : LengthAnswer) (f : second ≡ length_of b) where
+    pub texts_right : (q : Refusal) → second ≡ LA.Refused q → (r : Refusal) → ((p : Refusal) → second ≡ LA.Refused p → r ≡ p)
+        → concatenated (C.Refused r) out ≡ delivered (join_both a b) out
+    texts_right q k r g = rw (g q k, counted_these a n (sym e ∙ d), counted_none b q (sym f ∙ k))
 
-module _ (a : AmlValue) (s : List ℕ) (b : AmlValue) (t out : List ℕ) (one : Answer) (e : said one ≡ saying (a_string (text_in a s))) where
-  abbrev texts : Meaning
-  texts = a_string (join_bytes (text_in a s) (text_in b t))
+    module _ (m : ℕ) (k : second ≡ LA.Length m) where
+      texts : join_both a b ≡ a_string (text_bytes a ++ text_bytes b)
+      texts = ap (λ (x : Bytes). join_both x b) (counted_these a n (sym e ∙ d)) ∙ ap (join_texts (text_bytes a)) (counted_these b m (sym f ∙ k))
 
-  pub texts-left : OneOf not_string (tag_of Ans.the_type one) → told (said one) out ≡ delivered texts out
-  texts-left k = no_text one (text_in a s) e k (λ r p q. rw p (delivers_refused r out (rw q)))
+      pub texts_short : length out < n → concatenated (C.Refused R.OutputTooShort) out ≡ delivered (join_both a b) out
+      texts_short h = rw (texts, no_room_left (text_bytes a) (text_bytes b) out (omega (arith, counted_length a n (sym e ∙ d))))
 
-  module _ (n : ℕ) (d : one ≡ A.String n) (two : Answer) (f : said two ≡ saying (a_string (text_in b t))) where
-    pub texts-right : OneOf not_string (tag_of Ans.the_type two) → told (said two) out ≡ delivered texts out
-    texts-right k = no_text two (text_in b t) f k (λ r p q. hears_text n (text_in a s) (rw d at e) (λ l i z. rw p (delivers_refused r out (rw (i, q)))))
+      pub texts_shorter : length out - n < m → concatenated (C.Refused R.OutputTooShort) out ≡ delivered (join_both a b) out
+      texts_shorter h =
+          rw (texts, no_room_right (text_bytes a) (text_bytes b) out (omega (arith, counted_length a n (sym e ∙ d), counted_length b m (sym f ∙ k))))
 
-    module _ (m : ℕ) (k : two ≡ A.String m) where
-      -- both are there, and as long as they were counted
-      counted : {X : Type 0} → ((l r : List ℕ) → text_in a s ≡ given l → text_in b t ≡ given r → length l ≡ n → length r ≡ m → X) → X
-      counted g = hears_text n (text_in a s) (rw d at e) (λ l i y. hears_text m (text_in b t) (rw k at f) (λ r j z. g l r i j y z))
+      module _ (h : n ≤ length out) (g : m ≤ length out - n) where
+        pub texts_fit : length (text_bytes a) ≤ length out
+        texts_fit = omega (arith, counted_length a n (sym e ∙ d))
 
-      pub texts-short : length out < n → told (said (A.Refused R.OutputTooShort)) out ≡ delivered texts out
-      texts-short h = counted (λ l r i j y z. no-room-first (text (l ++ r)) l r refl texts (rw (i, j)) out (omega arith))
+        module _ (t : List ℕ) (p : t ≡ into (text_bytes a) out) where
+          pub texts_fit_behind : length (text_bytes b) ≤ length (take (length t - n) (drop n t))
+          texts_fit_behind =
+              rw (rest (text_bytes a) (text_bytes b) out t p texts_fit n (counted_length a n (sym e ∙ d)))
+              (omega (arith, length-drop n out, counted_length b m (sym f ∙ k)))
 
-      pub texts-shorter : length out - n < m → told (said (A.Refused R.OutputTooShort)) out ≡ delivered texts out
-      texts-shorter h = counted (λ l r i j y z. no-room-second (text (l ++ r)) l r refl texts (rw (i, j)) out (omega arith))
-
-      pub texts-done : n ≤ length out → m ≤ length out - n → (x : Answer) (p : List ℕ) → told (said x) p ≡ delivered (a_string (text_in a s)) out
-          → (w : Answer) (q : List ℕ) → told (said w) q ≡ delivered (a_string (text_in b t)) (take (length p - n) (drop n p))
-          → told (said (A.String (n + m))) (put_mid n (length p - n) p q) ≡ delivered texts out
-      texts-done h g x p put w q put2 =
-          counted
-          (λ l r i j y z.
-          let part = take (length p - n) (drop n p) in
-          let f1 : p ≡ into l out = lands (text l) out put (rw i) (omega arith) in
-          let f2 : q ≡ into r part = lands (text r) part put2 (rw j) (rw (rest l r out p f1 (omega arith) n (sym y)) (omega (arith, length-drop n out))) in
-          let c : length (l ++ r) ≡ n + m = length-append l r ∙ omega arith in
-          rw c at (both-given (text (l ++ r)) l r refl texts (rw (i, j)) out (omega arith) (omega arith) n (sym y) p f1 q f2))
+          pub texts_done : (ys : List ℕ) → ys ≡ into (text_bytes b) (take (length t - n) (drop n t))
+              → concatenated (C.String (n + m)) (put_mid n (length t - n) t ys) ≡ delivered (join_both a b) out
+          texts_done ys q =
+              let i = counted_length a n (sym e ∙ d) in
+              let j = counted_length b m (sym f ∙ k) in
+              rw (
+                pieces (text_bytes a) (text_bytes b) out t p texts_fit n i ys q,
+                texts,
+                room (text_bytes a) (text_bytes b) out texts_fit (omega arith),
+                i,
+                j,
+              )
 
 -- ---- buffers
-module _ (l : List ℕ) (b : AmlValue) (s out : List ℕ) (h : length s ≤ most_bytes) (one : Answer) (e : said one ≡ saying (as_buffer integer_bits b s)) where
-  abbrev buffers : Meaning
-  buffers = a_buffer (join_bytes (given l) (as_bytes b s))
+module _ (l : List ℕ) (v : AmlValue) (s out : List ℕ) (h : length s ≤ 65536) (counted : LengthAnswer) (e : counted ≡ buffer_length v s) where
+  pub buffers_refused : (q : Refusal) → counted ≡ LA.Refused q → (r : Refusal) → ((p : Refusal) → counted ≡ LA.Refused p → r ≡ p)
+      → concatenated (C.Refused r) out ≡ delivered (join_buffers l (to_buffer (held_by v s))) out
+  buffers_refused q d r g = rw (g q d, counted_none (to_buffer (held_by v s)) q (buffer_counted v s h ∙ sym e ∙ d))
 
-  pub buffers-refused : OneOf not_buffer (tag_of Ans.the_type one) → told (said one) out ≡ delivered buffers out
-  buffers-refused k = no_bytes one (as_bytes b s) (rw (asBuffer-short integer_bits b s h) at e) k (λ r p q. rw p (delivers_refused r out (rw q)))
+  module _ (n : ℕ) (d : counted ≡ LA.Length n) where
+    abbrev right : List ℕ
+    right = text_bytes (to_buffer (held_by v s))
 
-  module _ (n : ℕ) (d : one ≡ A.Buffer n) where
-    pub buffers-short : length out < length l → told (said (A.Refused R.OutputTooShort)) out ≡ delivered buffers out
-    buffers-short k = bytes_counted b s h one n e d (λ r j z. no-room-first (bytes (l ++ r)) l r refl buffers (rw j) out k)
+    held : to_buffer (held_by v s) ≡ these right
+    held = counted_these (to_buffer (held_by v s)) n (buffer_counted v s h ∙ sym e ∙ d)
 
-    pub buffers-shorter : length out - length l < n → told (said (A.Refused R.OutputTooShort)) out ≡ delivered buffers out
-    buffers-shorter k = bytes_counted b s h one n e d (λ r j z. no-room-second (bytes (l ++ r)) l r refl buffers (rw j) out (omega arith))
+    long : n ≡ length right
+    long = counted_length (to_buffer (held_by v s)) n (buffer_counted v s h ∙ sym e ∙ d)
 
-    pub buffers-done : length l ≤ length out → n ≤ length out - length l → (at : ℕ) → at ≡ length l
+    buffers : join_buffers l (to_buffer (held_by v s)) ≡ a_buffer (l ++ right)
+    buffers = ap (join_buffers l) held
+
+    pub buffers_short : length out < length l → concatenated (C.Refused R.OutputTooShort) out ≡ delivered (join_buffers l (to_buffer (held_by v s))) out
+    buffers_short k = rw (buffers, no_room_left l right out k)
+
+    pub buffers_shorter : length out - length l < n → concatenated (C.Refused R.OutputTooShort) out ≡ delivered (join_buffers l (to_buffer (held_by v s))) out
+    buffers_shorter k = rw (buffers, no_room_right l right out (omega (arith, long)))
+
+    pub buffers_done : length l ≤ length out → n ≤ length out - length l → (at : ℕ) → at ≡ length l
         → (t : List ℕ) → t ≡ take (length l) l ++ drop (length l) out
-        → (x : Answer) (ys : List ℕ) → told (said x) ys ≡ delivered (as_buffer integer_bits b s) (take (length t - at) (drop at t))
-        → told (said (A.Buffer (at + n))) (put_mid at (length t - at) t ys) ≡ delivered buffers out
-    buffers-done k g at f t p x ys q =
-        bytes_counted b s h one n e d
-        (λ r j z.
-        let i : t ≡ into l out = p ∙ copied l out in
-        let u : take (length t - at) (drop at t) ≡ drop at out = rest l r out t i k at f in
-        let v : ys ≡ into r (take (length t - at) (drop at t)) =
-        lands (bytes r) (take (length t - at) (drop at t)) q (asBuffer-short integer_bits b s h ∙ rw j) (rw u (omega (arith, length-drop at out))) in
-        let c : length (l ++ r) ≡ at + n = length-append l r ∙ omega arith in
-        rw c at (both-given (bytes (l ++ r)) l r refl buffers (rw j) out k (omega arith) at f t i ys v))
+        → (r : LengthAnswer) (ys : List ℕ) → given r ys ≡ as_buffer v s (take (length t - at) (drop at t))
+        → concatenated (C.Buffer (at + n)) (put_mid at (length t - at) t ys) ≡ delivered (join_buffers l (to_buffer (held_by v s))) out
+    buffers_done k g at f t p r ys q =
+        let i = copied l out t p in
+        let b = take (length t - at) (drop at t) in
+        let w : length right ≤ length b = rw (rest l right out t i k at f) (omega (arith, length-drop at out, long)) in
+        let y : given r ys ≡ given (LA.Length (length right)) (into right b) =
+        q ∙ as_buffer_short v s h b ∙ ap (λ (x : Bytes). giving x b) held ∙ giving_these right b w in
+        rw (pieces l right out t i k at f ys (ap (λ (x : Given). x.out) y), buffers, room l right out k (omega (arith, long)), f, long)
 
--- ---- by the left side
+-- ---- the whole
+
+joined_numbers : (x y : IntegerAnswer)
+    → join_operands (and_then x (λ i. and_then y (Op.Two i) Op.Refused) Op.Refused)
+    ≡ and_then x (λ i. and_then y (λ n. a_buffer (number_bytes i ++ number_bytes n)) refused) refused
+joined_numbers (IA.Refused r) y = refl
+joined_numbers (IA.Integer i) (IA.Refused r) = refl
+joined_numbers (IA.Integer i) (IA.Integer n) = refl
 
 -- all but Boolean, Integer, Buffer
 abbrev pub texty : List ℕ
 texty = 2 ∷ 4 ∷ 5 ∷ 6 ∷ 7 ∷ 8 ∷ 9 ∷ 10 ∷ 11 ∷ 12 ∷ 13 ∷ []
 
-module _ (a : AmlValue) (s : List ℕ) (b : AmlValue) (t : List ℕ) where
-  pub concat-left-long : most_bytes < length s → concat integer_bits a s b t ≡ refused R.TooManyBytes
+joined_texts : (v : AmlValue) (s : List ℕ) (b : Held) → OneOf texty (tag_of AmlValue.the_type v) → join_both (text_of (held_by v s)) (text_of b) ≡ joined (held_by v s) b
+unfolding joined
+joined_texts (Val.Boolean x) s b k = absurd (miss texty 0 tt k)
+joined_texts (Val.Integer x) s b k = absurd (miss texty 1 tt k)
+joined_texts Val.Buffer s b k = absurd (miss texty 3 tt k)
+joined_texts Val.String s b k = refl
+joined_texts (Val.BufferField o n) s b k = refl
+joined_texts (Val.Field f) s b k = refl
+joined_texts Val.OpRegion s b k = refl
+joined_texts Val.Device s b k = refl
+joined_texts Val.Method s b k = refl
+joined_texts Val.Processor s b k = refl
+joined_texts Val.Mutex s b k = refl
+joined_texts Val.Package s b k = refl
+joined_texts Val.PowerResource s b k = refl
+joined_texts Val.ThermalZone s b k = refl
+
+module _ (a : AmlValue) (s : List ℕ) (b : AmlValue) (t out : List ℕ) where
+  pub concat_left_long : 65536 < length s → concatenated (C.Refused R.TooManyBytes) out ≡ concat a s b t out
   unfolding concat
-  concat-left-long h = lent-long s (t ∷ []) _ h
+  concat_left_long h = sym (both_long s t _ (λ r. concatenated (C.Refused r) out) h)
 
-  module _ (h : length s ≤ most_bytes) where
-    pub concat-right-long : most_bytes < length t → concat integer_bits a s b t ≡ refused R.TooManyBytes
+  pub concat_right_long : 65536 < length t → concatenated (C.Refused R.TooManyBytes) out ≡ concat a s b t out
+  unfolding concat
+  concat_right_long h = sym (both_second s t _ (λ r. concatenated (C.Refused r) out) h)
+
+  module _ (h : length s ≤ 65536) (g : length t ≤ 65536) (r : ConcatAnswer) (w : List ℕ) where
+    by_left : (j : Joined) → j ≡ joined (held_by a s) (held_by b t) → concatenated r w ≡ delivered j out → concatenated r w ≡ concat a s b t out
     unfolding concat
-    concat-right-long g = lent-second s t _ h g
+    by_left j e f = f ∙ ap (λ (x : Joined). delivered x out) e ∙ sym (both_short s t _ (λ q. concatenated (C.Refused q) out) h g)
 
-    module _ (g : length t ≤ most_bytes) where
-      abbrev other : Held
-      other = held_by integer_bits b t
+    pub concat_buffer : a ≡ Val.Buffer → concatenated r w ≡ delivered (join_buffers s (to_buffer (held_by b t))) out → concatenated r w ≡ concat a s b t out
+    unfolding joined
+    concat_buffer k f = by_left (join_buffers s (to_buffer (held_by b t))) (rw k) f
 
-      by_left : concat integer_bits a s b t ≡ joined_to integer_bits other (unread (held_by integer_bits a s))
-      unfolding concat joined
-      by_left = lent_two s t _ h g
+    pub concat_text : OneOf texty (tag_of AmlValue.the_type a)
+        → concatenated r w ≡ delivered (join_both (text_of (held_by a s)) (text_of (held_by b t))) out → concatenated r w ≡ concat a s b t out
+    concat_text k f = by_left (join_both (text_of (held_by a s)) (text_of (held_by b t))) (joined_texts a s (held_by b t) k) f
 
-      pub concat-boolean : (x : Bool) → a ≡ Val.Boolean x → concat integer_bits a s b t ≡ a_buffer (join_numbers integer_bits (as_number a s) (as_number b t))
-      unfolding joined_to to_integer read
-      concat-boolean x k = by_left ∙ rw k
+    module _ (both : Operands) (e : both ≡ operands a s b t) (f : concatenated r w ≡ delivered (join_operands both) out) where
+      by_number : join_operands both ≡ and_then (to_integer (held_by a s)) (λ x. join_numbers x (held_by b t)) refused
+      by_number = rw (e, operands_short a s b t h g) (joined_numbers (to_integer (held_by a s)) (to_integer (held_by b t)))
 
-      pub concat-integer : (x : ℕ) → a ≡ Val.Integer x → concat integer_bits a s b t ≡ a_buffer (join_numbers integer_bits (as_number a s) (as_number b t))
-      unfolding joined_to to_integer read
-      concat-integer x k = by_left ∙ rw k
+      pub concat_boolean : (x : Bool) → a ≡ Val.Boolean x → concatenated r w ≡ concat a s b t out
+      unfolding joined to_integer
+      concat_boolean x k = by_left (join_operands both) (by_number ∙ rw k) f
 
-      pub concat-buffer : a ≡ Val.Buffer → concat integer_bits a s b t ≡ a_buffer (join_bytes (given s) (as_bytes b t))
-      unfolding joined_to
-      concat-buffer k = by_left ∙ rw k
-
-      pub concat-text : OneOf texty (tag_of the_type a)
-          → concat integer_bits a s b t ≡ a_string (join_texts integer_bits (unread (held_by integer_bits a s)) (unread other))
-      unfolding joined_to
-      concat-text k =
-          by_left
-          ∙ every-kind (OneOf texty)
-          (λ h. joined_to integer_bits other (unread h) ≡ a_string (join_texts integer_bits (unread h) (unread other)))
-          integer_bits s
-          (λ b k. absurd (miss texty 0 tt k)) (λ n k. absurd (miss texty 1 tt k)) (λ k. refl) (λ k. absurd (miss texty 3 tt k)) (λ o n k. refl)
-          (λ u k. refl) (λ t. refl) a k
+      pub concat_integer : (x : ℕ) → a ≡ Val.Integer x → concatenated r w ≡ concat a s b t out
+      unfolding joined to_integer
+      concat_integer x k = by_left (join_operands both) (by_number ∙ rw k) f

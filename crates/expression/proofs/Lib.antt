@@ -1,11 +1,10 @@
+pub mod Lent
+pub mod Numbers
+pub mod Slicing
+pub mod Filling
 pub mod Building
-pub mod Chains
-pub mod Comparing
 pub mod Counting
-pub mod EveryKind
+pub mod Comparing
 pub mod Joining
 pub mod Naming
-pub mod Operators
-pub mod Parts
-pub mod Pieces
 pub mod Resources

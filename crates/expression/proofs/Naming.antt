@@ -1,38 +1,26 @@
--- The names of the kinds, and a value's string or name: each is true by its line in the definition.
+-- The names of the kinds: their lengths, and what stands at the front of the output when one is copied there. Each is true by its line in the definition.
 -- Assumes nothing.
-use Rattle.std.proofs.Common.{◌≡◌, ℕ, ◌<◌, ◌≤◌, Bool, List, [], ◌∷◌, ◌++◌, map, length, take, drop, sym, refl, ap, ◌∙◌, arith, length-take}
+use Rattle.std.proofs.Common.{◌≡◌, ℕ, ◌≤◌, List, [], ◌∷◌, ◌++◌, length, take, drop, sym, refl, ap, ◌∙◌}
 use denote.Enum.Declared.{tag_of}
 use types.Run.{OneOf, miss}
-use lib.ListN.{length-map}
-use Rattle.text.specs.Quoted.{ascii}
-use Rattle.types.specs.Limits.{most_bytes}
 use Rattle.types.specs.Values.{type_of}
-use Rattle.types.specs.Answers.{given, text, a_string, said, saying, told, delivered}
-use Rattle.types.specs.Held.{held_by, unread}
-use Rattle.types.specs.declared.answer.Answer.TheVariants as A
-use Rattle.types.specs.declared.refusal.Refusal.TheVariants as R
 use Rattle.types.specs.declared.value.AmlType.{AmlType}
 use Rattle.types.specs.declared.value.AmlType.TheVariants as T
 use Rattle.types.specs.declared.value.AmlValue.{AmlValue}
 use Rattle.types.specs.declared.value.AmlValue.TheVariants as Val
 use Rattle.types.specs.contracts.value.AmlType as AmlType
 use Rattle.types.specs.contracts.value.AmlValue as AmlValue
-use Rattle.types.proofs.ByKind.{by-kind-unread}
-use Rattle.value.specs.Conversions.{read_unit, to_string}
-use Rattle.value.specs.Calls.{as_string}
-use Rattle.value.proofs.Answering.{says-text, gives_short, gives-text}
-use Rattle.value.proofs.Lent.{asString-short}
-use Rattle.expression.specs.Names.{name_of}
-use Rattle.expression.specs.Concat.{text_of}
-
--- ---- a name
+use Rattle.value.specs.Conversions.{held_by, into}
+use Rattle.value.specs.Lengths.{length_of}
+use Rattle.value.specs.declared.convert.LengthAnswer.TheVariants as LA
+use Rattle.expression.specs.Concat.{name_of, text_of, text_bytes}
+use Rattle.expression.proofs.Filling.{copied}
 
 -- the places of Buffer, Integer and String in the enum of types
 abbrev pub nameless : List ℕ
 nameless = 0 ∷ 4 ∷ 11 ∷ []
 
-pub no_name : (k : AmlType) → OneOf nameless (tag_of AmlType.the_type k) → [] ≡ ascii (name_of k)
-unfolding ascii
+pub no_name : (k : AmlType) → OneOf nameless (tag_of AmlType.the_type k) → name_of k ≡ []
 no_name T.Buffer o = refl
 no_name T.Integer o = refl
 no_name T.String o = refl
@@ -47,65 +35,75 @@ no_name T.PowerResource o = absurd (miss nameless 9 tt o)
 no_name T.Processor o = absurd (miss nameless 10 tt o)
 no_name T.ThermalZone o = absurd (miss nameless 12 tt o)
 
--- the first n of 18 bytes
-module _ (kind : AmlType) (bytes : List ℕ) (n : ℕ) (e : take n bytes ≡ ascii (name_of kind)) (b : n ≤ 18) (size : length (map (λ (x : ℕ). x) bytes) ≡ 18) where
-  pub name-inside : n ≤ length bytes
-  name-inside = omega (arith, length-map bytes (λ (x : ℕ). x))
+pub no_name_length : (k : AmlType) → OneOf nameless (tag_of AmlType.the_type k) → 0 ≡ length (name_of k)
+no_name_length k o = sym (ap length (no_name k o))
 
-  pub name-counted : n ≡ length (take n bytes)
-  name-counted = simp length-take (omega (arith, name-inside))
+pub no_name_put : (k : AmlType) (out : List ℕ) → OneOf nameless (tag_of AmlType.the_type k) → out ≡ into (name_of k) out
+no_name_put k out o = rw (no_name k o)
 
-  pub name-long : length (ascii (name_of kind)) ≡ n
-  name-long = sym (name-counted ∙ ap length e)
+-- a name that was copied
+pub name_fits : (k kind : AmlType) (n : ℕ) → kind ≡ k → length (name_of kind) ≤ n → length (name_of k) ≤ n
+name_fits k kind n e h = rw e at h
 
-  module _ (out : List ℕ) where
-    pub name-no-room : length out < n → told (said (A.Refused R.OutputTooShort)) out ≡ delivered (given (text (ascii (name_of kind)))) out
-    name-no-room h = gives_short (text (ascii (name_of kind))) out (rw name-long h)
-
-    module _ (h : n ≤ length out) where
-      pub name-fits : length (take n bytes) ≤ length out
-      name-fits = rw (← name-counted) h
-
-      pub name-put : (k : ℕ) → k ≡ length (take n bytes) → (t : List ℕ)
-          → t ≡ take (length (take n bytes)) (take n bytes) ++ drop (length (take n bytes)) out
-          → told (said (A.String k)) t ≡ delivered (given (text (ascii (name_of kind)))) out
-      name-put k c t d = rw (← e) (gives-text (take n bytes) out name-fits k c t d)
+pub name_put : (k kind : AmlType) (out t : List ℕ) → kind ≡ k → t ≡ take (length (name_of k)) (name_of k) ++ drop (length (name_of k)) out → t ≡ into (name_of kind) out
+name_put k kind out t e c = rw e (copied (name_of k) out t c)
 
 -- ---- a value's string or name
+
+-- all but String
+abbrev pub not_string : List ℕ
+not_string = 0 ∷ 1 ∷ 3 ∷ 4 ∷ 5 ∷ 6 ∷ 7 ∷ 8 ∷ 9 ∷ 10 ∷ 11 ∷ 12 ∷ 13 ∷ []
+
+named : (v : AmlValue) (s : List ℕ) → OneOf not_string (tag_of AmlValue.the_type v) → text_bytes (text_of (held_by v s)) ≡ name_of (type_of v)
+named Val.String s o = absurd (miss not_string 2 tt o)
+named (Val.Boolean b) s o = refl
+named (Val.Integer n) s o = refl
+named Val.Buffer s o = refl
+named (Val.BufferField p n) s o = refl
+named (Val.Field f) s o = refl
+named Val.OpRegion s o = refl
+named Val.Device s o = refl
+named Val.Method s o = refl
+named Val.Processor s o = refl
+named Val.Mutex s o = refl
+named Val.Package s o = refl
+named Val.PowerResource s o = refl
+named Val.ThermalZone s o = refl
 
 -- all but Boolean, Integer, String, Buffer
 abbrev pub kinds : List ℕ
 kinds = 4 ∷ 5 ∷ 6 ∷ 7 ∷ 8 ∷ 9 ∷ 10 ∷ 11 ∷ 12 ∷ 13 ∷ []
 
-module _ (w : ℕ) (v : AmlValue) (s : List ℕ) where
-  pub by_name : OneOf kinds (tag_of AmlValue.the_type v) → (k : AmlType) → k ≡ type_of v
-      → a_string (text_of w (unread (held_by w v s))) ≡ given (text (ascii (name_of k)))
-  unfolding text_of
-  by_name o k e =
-      ap a_string
-      (by-kind-unread (OneOf kinds) (text_of w) (λ t. given (ascii (name_of t))) w s
-      (λ b o. absurd (miss kinds 0 tt o)) (λ n o. absurd (miss kinds 1 tt o)) (λ o. absurd (miss kinds 2 tt o)) (λ o. absurd (miss kinds 3 tt o))
-      (λ t. refl) v o)
-      ∙ ap (λ t. given (text (ascii (name_of t)))) (sym e)
+name_counted : (v : AmlValue) (s : List ℕ) → OneOf kinds (tag_of AmlValue.the_type v) → LA.Length (length (name_of (type_of v))) ≡ length_of (text_of (held_by v s))
+name_counted (Val.Boolean b) s o = absurd (miss kinds 0 tt o)
+name_counted (Val.Integer n) s o = absurd (miss kinds 1 tt o)
+name_counted Val.String s o = absurd (miss kinds 2 tt o)
+name_counted Val.Buffer s o = absurd (miss kinds 3 tt o)
+name_counted (Val.BufferField p n) s o = refl
+name_counted (Val.Field f) s o = refl
+name_counted Val.OpRegion s o = refl
+name_counted Val.Device s o = refl
+name_counted Val.Method s o = refl
+name_counted Val.Processor s o = refl
+name_counted Val.Mutex s o = refl
+name_counted Val.Package s o = refl
+name_counted Val.PowerResource s o = refl
+name_counted Val.ThermalZone s o = refl
 
-  pub name-said : OneOf kinds (tag_of AmlValue.the_type v) → (k : AmlType) → k ≡ type_of v → (n : ℕ) → length (ascii (name_of k)) ≡ n
-      → said (A.String n) ≡ saying (a_string (text_of w (unread (held_by w v s))))
-  name-said o k e n c = rw c at (says-text (by_name o k e))
+module _ (v : AmlValue) (s : List ℕ) (k : AmlType) (e : k ≡ type_of v) where
+  pub counted_name : OneOf kinds (tag_of AmlValue.the_type v) → (n : ℕ) → n ≡ length (name_of k) → LA.Length n ≡ length_of (text_of (held_by v s))
+  counted_name o n f = rw (f, e) (name_counted v s o)
 
-  -- where it has no name, what to string gives
-  module _ (h : length s ≤ most_bytes) where
-    pub by-boolean : (b : Bool) → v ≡ Val.Boolean b → a_string (text_of w (unread (held_by w v s))) ≡ as_string w v s
-    unfolding text_of to_string read_unit
-    by-boolean b e = sym (asString-short w v s h ∙ rw e)
+  module _ (o : OneOf not_string (tag_of AmlValue.the_type v)) (out : List ℕ) where
+    pub kind_fits : length (text_bytes (text_of (held_by v s))) ≤ length out → length (name_of k) ≤ length out
+    kind_fits h = rw (e, ← named v s o) h
 
-    pub by-integer : (n : ℕ) → v ≡ Val.Integer n → a_string (text_of w (unread (held_by w v s))) ≡ as_string w v s
-    unfolding text_of to_string read_unit
-    by-integer n e = sym (asString-short w v s h ∙ rw e)
+    pub kind_put : (t : List ℕ) → t ≡ into (name_of k) out → t ≡ into (text_bytes (text_of (held_by v s))) out
+    kind_put t f = f ∙ rw (e, named v s o)
 
-    pub by-string : v ≡ Val.String → a_string (text_of w (unread (held_by w v s))) ≡ as_string w v s
-    unfolding text_of to_string read_unit
-    by-string e = sym (asString-short w v s h ∙ rw e)
+module _ (v : AmlValue) (s out : List ℕ) (e : v ≡ Val.String) where
+  pub string_fits : length (text_bytes (text_of (held_by v s))) ≤ length out → length s ≤ length out
+  string_fits h = rw e at h
 
-    pub by-buffer : v ≡ Val.Buffer → a_string (text_of w (unread (held_by w v s))) ≡ as_string w v s
-    unfolding text_of to_string read_unit
-    by-buffer e = sym (asString-short w v s h ∙ rw e)
+  pub string_put : (t : List ℕ) → t ≡ take (length s) s ++ drop (length s) out → t ≡ into (text_bytes (text_of (held_by v s))) out
+  string_put t c = rw e (copied s out t c)

@@ -1,31 +1,24 @@
 -- ConcatRes: a sum that wraps at eight bits goes over the bytes one by one; both operands are copied whole, so that each one's last two bytes are
 -- overwritten by what follows; and the two bytes of the end make the sum 0.
 -- Assumes nothing.
-use Rattle.std.proofs.Common.{◌≡◌, ℕ, suc, ◌+◌, ◌-◌, ◌%◌, ◌^◌, ◌<◌, ◌≤◌, Bool, true, false, ◌||◌, eqb, List, [], ◌∷◌, ◌++◌, length, get_or, take, drop, set, sym, refl, ap, ◌∙◌, append_assoc, append-nil, add-one, arith, length-append, length-drop, drop_of_length-le, length-take, take_all, drop-cons, drop-drop, w64, Fits}
+use Rattle.std.proofs.Common.{◌≡◌, ℕ, suc, ◌+◌, ◌-◌, ◌%◌, ◌^◌, ◌<◌, ◌≤◌, Bool, true, false, ◌||◌, eqb, List, [], ◌∷◌, ◌++◌, length, get_or, take, drop, set, sym, ap, ◌∙◌, append_assoc, append-nil, add-one, arith, length-append, length-drop, drop_of_length-le, length-take, take_all, drop-cons, drop-drop}
 use lib.Seq.{set_split, set_at, drop-append-add, take-append-add, take-append-le}
-use denote.Enum.Declared.{tag_of}
-use types.Run.{OneOf}
-use borrow.Rule.Slice.PartMut.{put_mid}
-use Rattle.bits.specs.Integers.{integer_bits}
-use Rattle.types.specs.Limits.{most_bytes}
-use Rattle.types.specs.Refusals.{Checks, first_of}
-use Rattle.types.specs.Answers.{Answered, given, refused, ◌>>=◌, passing, lent, bytes, a_buffer, said, saying, told, into, delivered}
-use Rattle.types.specs.Held.{held_by}
-use Rattle.types.specs.declared.answer.Answer.{Answer}
-use Rattle.types.specs.declared.answer.Answer.TheVariants as A
+use borrow.Rule.Slice.PartMut.{put_mid, same_len_mid}
+use Rattle.types.specs.Refusals.{first_of}
+use Rattle.types.specs.declared.refusal.Refusal.{Refusal}
 use Rattle.types.specs.declared.refusal.Refusal.TheVariants as R
 use Rattle.types.specs.declared.value.AmlValue.{AmlValue}
-use Rattle.types.specs.contracts.answer.Answer.{the_type}
-use Rattle.types.proofs.Lent.{lent-long, lent-second, lent_two}
-use Rattle.types.proofs.Saying.{delivers_refused, delivers-short, delivers, not_buffer, no_bytes}
-use Rattle.buffer_field.proofs.Fronts.{into-length}
-use Rattle.value.specs.Conversions.{to_buffer}
-use Rattle.value.specs.Calls.{as_buffer}
-use Rattle.value.proofs.Lent.{asBuffer-short}
-use Rattle.expression.specs.Concat.{sum, body, ended, joined_resources}
-use Rattle.expression.specs.Calls.{concat_res}
-use Rattle.expression.proofs.Counting.{as_bytes, bytes_counted, few-counted}
-use Rattle.expression.proofs.Pieces.{lands, kept}
+use Rattle.value.specs.Conversions.{held_by, to_buffer, Bytes, these, Given, given, giving, into, as_buffer}
+use Rattle.value.specs.Lengths.{buffer_length}
+use Rattle.value.specs.declared.convert.LengthAnswer.{LengthAnswer}
+use Rattle.value.specs.declared.convert.LengthAnswer.TheVariants as LA
+use Rattle.value.proofs.Giving.{into_length, giving_none, giving_short, giving_these}
+use Rattle.value.proofs.Lengths.{buffer_counted}
+use Rattle.value.proofs.Lent.{as_buffer_short}
+use Rattle.expression.specs.Concat.{text_bytes, sum, body, ended, resources, join_resources, concat_res}
+use Rattle.expression.proofs.Lent.{both_long, both_second, both_short}
+use Rattle.expression.proofs.Filling.{kept}
+use Rattle.expression.proofs.Counting.{counted_these, counted_length, counted_none}
 
 -- ---- the sum
 
@@ -55,23 +48,6 @@ sum_end l total i h b u =
 
 -- ---- the end
 
--- the byte behind 0x79
-abbrev checksum : List ℕ → ℕ
-checksum l = (256 - (sum l + 0x79) % 256) % 256
-
-sum_append : (l r : List ℕ) → sum (l ++ r) ≡ sum l + sum r
-unfolding sum
-sum_append [] r = omega arith
-sum_append (x ∷ l) r = ap (λ (n : ℕ). x + n) (sum_append l r) ∙ omega arith
-
-zero_sum : (s : ℕ) → (s + (0x79 + ((256 - (s + 0x79) % 256) % 256 + 0))) % 256 ≡ 0
-zero_sum s = omega arith
-
--- "the byte that makes the sum 0 modulo 256"
-pub ended_sums_to_0 : (l : List ℕ) → sum (ended l) % 256 ≡ 0
-unfolding sum
-ended_sums_to_0 l = rw (sum_append l (0x79 ∷ checksum l ∷ [])) (zero_sum (sum l))
-
 last : (s t c : ℕ) → t ≡ (s % 256 + 0x79) % 2 ^ 8 → (c + t) % 2 ^ 8 ≡ 0 → c < 256 → c ≡ (256 - (s + 0x79) % 256) % 256
 last s t c e f b = omega arith
 
@@ -81,39 +57,29 @@ end_done out n s t c h e f g b =
     let p = take n out in
     let l : length p ≡ n = simp length-take (omega arith) in
     let q : length (p ++ (0x79 ∷ [])) ≡ n + 1 = length-append p (0x79 ∷ []) ∙ omega arith in
-    let m : length (ended p) ≡ suc (suc n) = length-append p (0x79 ∷ checksum p ∷ []) ∙ omega arith in
-    let k : c ≡ checksum p = last (sum p) t c (f ∙ ap (λ (x : ℕ). (x + 0x79) % 2 ^ 8) e) g b in
+    let m : length (ended p) ≡ suc (suc n) = length-append p (0x79 ∷ (256 - (sum p + 0x79) % 256) % 256 ∷ []) ∙ omega arith in
+    let k : c ≡ (256 - (sum p + 0x79) % 256) % 256 = last (sum p) t c (f ∙ ap (λ (x : ℕ). (x + 0x79) % 2 ^ 8) e) g b in
     ap (λ (x : List ℕ). set x (n + 1) c)
     (set_split out n 0x79 (omega arith) ∙ ap (λ (x : List ℕ). p ++ (0x79 ∷ x)) (drop-cons out (suc n) 0 (omega arith))
     ∙ sym (append_assoc p (0x79 ∷ []) (get_or out (suc n) 0 ∷ drop (suc (suc n)) out)))
     ∙ set_at (p ++ (0x79 ∷ [])) (get_or out (suc n) 0) (drop (suc (suc n)) out) c (n + 1) q
     ∙ append_assoc p (0x79 ∷ []) (c ∷ drop (suc (suc n)) out)
     ∙ ap (λ (x : ℕ). p ++ (0x79 ∷ x ∷ drop (suc (suc n)) out)) k
-    ∙ sym (append_assoc p (0x79 ∷ checksum p ∷ []) (drop (suc (suc n)) out))
+    ∙ sym (append_assoc p (0x79 ∷ (256 - (sum p + 0x79) % 256) % 256 ∷ []) (drop (suc (suc n)) out))
     ∙ ap (λ (x : ℕ). ended p ++ drop x out) (sym m)
 
 -- ---- both operands one behind the other
 
-ended_length : (l r : List ℕ) (at end : ℕ) → at ≡ length l - 2 → end ≡ length r - 2 → length (ended (body l ++ body r)) ≡ at + end + 2
-ended_length l r at end a b =
-    let c = body l ++ body r in
-    let p : length (body l) ≡ at = simp length-take (omega arith) in
-    let q : length (body r) ≡ end = simp length-take (omega arith) in
-    length-append c (0x79 ∷ checksum c ∷ []) ∙ omega (arith, length-append (body l) (body r))
-
 -- l whole, then r whole from the end of l's body on
-module _ (l r out t : List ℕ) (at end : ℕ) (a : at ≡ length l - 2) (b : end ≡ length r - 2) (room : at + end + 2 ≤ length out) (e : t ≡ into l out) where
+module _ (l r out t : List ℕ) (at end : ℕ) (a : at ≡ length l - 2) (b : end ≡ at + (length r - 2)) (room : end + 2 ≤ length out) (e : t ≡ into l out) where
   size : length t ≡ length out
-  size = ap length e ∙ into-length l out (omega arith)
+  size = ap length e ∙ into_length l out (omega arith)
 
   behind : take (length t - at) (drop at t) ≡ drop at t
   behind = take_all (length t - at) (drop at t) (omega (arith, length-drop at t))
 
-  right_fits : length r ≤ length (take (length t - at) (drop at t))
+  pub right_fits : length r ≤ length (take (length t - at) (drop at t))
   right_fits = rw behind (omega (arith, length-drop at t, size))
-
-  front : length (body l) ≡ at
-  front = simp length-take (omega arith)
 
   module _ (ys : List ℕ) (f : ys ≡ into r (take (length t - at) (drop at t))) where
     abbrev both : List ℕ
@@ -125,135 +91,132 @@ module _ (l r out t : List ℕ) (at end : ℕ) (a : at ≡ length l - 2) (b : en
         let z : drop (length t - at) (drop at t) ≡ [] = drop_of_length-le (drop at t) {i = length t - at} (omega (arith, length-drop at t)) in
         rw (i, z, append-nil, f, behind)
 
+    pub both_length : length both ≡ length out
+    both_length = same_len_mid at (length t - at) t ys (ap length f ∙ into_length r (take (length t - at) (drop at t)) right_fits) ∙ size
+
+    front : length (body l) ≡ at
+    front = simp length-take (omega arith)
+
     -- up to the end of r's body: both bodies
-    bodies : take (at + end) both ≡ body l ++ body r
+    bodies : take end both ≡ body l ++ body r
     bodies =
-        let k : length (body l) + (length r - 2) ≡ at + end = omega (arith, front) in
+        let k : length (body l) + (length r - 2) ≡ end = omega (arith, front) in
         rw (whole, ← k, take-append-add (body l) (into r (drop at t)) (length r - 2), take-append-le (length r - 2) r (drop (length r) (drop at t)) (omega arith))
 
     -- from the end of the result on: what was there
-    beyond : drop (at + end + 2) both ≡ drop (at + end + 2) out
+    beyond : drop (end + 2) both ≡ drop (end + 2) out
     beyond =
         let q = length r - 2 + 2 in
-        let k : length (body l) + q ≡ at + end + 2 = omega (arith, front) in
-        let m : at + q ≡ at + end + 2 = omega arith in
-        ap (λ (x : List ℕ). drop (at + end + 2) x) whole
+        let k : length (body l) + q ≡ end + 2 = omega (arith, front) in
+        let m : at + q ≡ end + 2 = omega arith in
+        ap (λ (x : List ℕ). drop (end + 2) x) whole
         ∙ ap (λ (x : ℕ). drop x (body l ++ into r (drop at t))) (sym k)
         ∙ drop-append-add (body l) (into r (drop at t)) q
         ∙ kept r (drop at t) q (omega arith)
         ∙ drop-drop q at t
         ∙ ap (λ (x : ℕ). drop x t) m
-        ∙ rw e (kept l out (at + end + 2) (omega arith))
+        ∙ rw e (kept l out (end + 2) (omega arith))
 
-    resources_put : (w : List ℕ) → w ≡ into (ended (take (at + end) both)) both → w ≡ into (ended (body l ++ body r)) out
-    resources_put w g = g ∙ rw (bodies, ended_length l r at end a b, beyond)
+    tagged : length (ended (body l ++ body r)) ≡ end + 2
+    tagged =
+        let c = body l ++ body r in
+        let g : length (body r) ≡ length r - 2 = simp length-take (omega arith) in
+        length-append c (0x79 ∷ (256 - (sum c + 0x79) % 256) % 256 ∷ []) ∙ omega (arith, length-append (body l) (body r), front)
 
--- two operands' bodies and the end fit a machine word
-module _ (a : AmlValue) (s : List ℕ) (h : length s ≤ most_bytes) (one : Answer) (n : ℕ) (e : said one ≡ saying (as_buffer integer_bits a s)) (d : one ≡ A.Buffer n)
-    (b : AmlValue) (t : List ℕ) (g : length t ≤ most_bytes) (two : Answer) (m : ℕ) (f : said two ≡ saying (as_buffer integer_bits b t)) (k : two ≡ A.Buffer m)
-    (at : ℕ) (u : at ≡ n - 2) (end : ℕ) (v : end ≡ m - 2) where
-  pub size_fits : Fits w64 (at + end + 2)
-  size_fits = omega (arith, few-counted a s h one n e d, few-counted b t g two m f k)
-
-  pub end_fits : Fits w64 (at + end)
-  end_fits = omega (arith, few-counted a s h one n e d, few-counted b t g two m f k)
-
--- ---- what ConcatRes gives sums to 0
-
-module _ (l : List ℕ) where
-  joined_sum : (x y : Answered (List ℕ)) (cs : List ℕ → List ℕ → Checks)
-      → (x >>= λ p. y >>= λ q. passing (cs p q) >>= λ _. given (ended (body p ++ body q))) ≡ given l → sum l % 256 ≡ 0
-  joined_sum (refused r) y cs e = cc
-  joined_sum (given p) (refused r) cs e = cc
-  joined_sum (given p) (given q) cs e = go (passing (cs p q)) e
-    where
-      go : (u : Answered Unit) → (u >>= λ _. given (ended (body p ++ body q))) ≡ given l → sum l % 256 ≡ 0
-      go (given u) e = let f : ended (body p ++ body q) ≡ l = cc in rw (← f) (ended_sums_to_0 (body p ++ body q))
-      go (refused r) e = cc
-
-  pub resources-sum-to-0 : (w : ℕ) (a : AmlValue) (s : List ℕ) (b : AmlValue) (t : List ℕ) → concat_res w a s b t ≡ given (bytes l) → sum l % 256 ≡ 0
-  unfolding concat_res joined_resources
-  resources-sum-to-0 w a s b t e = go (lent (s ∷ t ∷ [])) (joined_resources w (held_by w a s) (held_by w b t)) refl e
-    where
-      go : (u : Answered Unit) (m : Answered (List ℕ)) → joined_resources w (held_by w a s) (held_by w b t) ≡ m → (u >>= λ _. a_buffer m) ≡ given (bytes l) → sum l % 256 ≡ 0
-      go (refused r) m f e = cc
-      go (given u) (refused r) f e = cc
-      go (given u) (given q) f e =
-          let g : q ≡ l = cc in
-          joined_sum (to_buffer w (held_by w a s)) (to_buffer w (held_by w b t)) (λ p q. (eqb (length p) 1 || eqb (length q) 1, R.ResourceDescriptorTooShort) ∷ []) (f ∙ ap given g)
+    pub resources_put : (w : List ℕ) → w ≡ into (ended (take end both)) both → w ≡ into (ended (body l ++ body r)) out
+    resources_put w g = g ∙ rw (bodies, tagged, beyond)
 
 -- ---- the whole
-
-module _ (a : AmlValue) (s : List ℕ) (b : AmlValue) (t : List ℕ) where
-  pub res-left-long : most_bytes < length s → concat_res integer_bits a s b t ≡ refused R.TooManyBytes
+module _ (a : AmlValue) (s : List ℕ) (b : AmlValue) (t out : List ℕ) where
+  pub res_left_long : 65536 < length s → given (LA.Refused R.TooManyBytes) out ≡ concat_res a s b t out
   unfolding concat_res
-  res-left-long h = lent-long s (t ∷ []) _ h
+  res_left_long h = sym (both_long s t _ (λ r. given (LA.Refused r) out) h)
 
-  module _ (h : length s ≤ most_bytes) where
-    pub res-right-long : most_bytes < length t → concat_res integer_bits a s b t ≡ refused R.TooManyBytes
+  pub res_right_long : 65536 < length t → given (LA.Refused R.TooManyBytes) out ≡ concat_res a s b t out
+  unfolding concat_res
+  res_right_long h = sym (both_second s t _ (λ r. given (LA.Refused r) out) h)
+
+  module _ (h : length s ≤ 65536) (g : length t ≤ 65536) (first : LengthAnswer) (e : first ≡ buffer_length a s) where
+    by_operands : giving (join_resources (to_buffer (held_by a s)) (to_buffer (held_by b t))) out ≡ concat_res a s b t out
     unfolding concat_res
-    res-right-long g = lent-second s t _ h g
+    by_operands = sym (both_short s t _ (λ r. given (LA.Refused r) out) h g)
 
-    module _ (g : length t ≤ most_bytes) (out : List ℕ) (one : Answer) (e : said one ≡ saying (as_buffer integer_bits a s)) where
-      abbrev short : List ℕ → List ℕ → Checks
-      short l r = (eqb (length l) 1 || eqb (length r) 1, R.ResourceDescriptorTooShort) ∷ []
+    pub res_left : (q : Refusal) → first ≡ LA.Refused q → given first out ≡ concat_res a s b t out
+    res_left q d = rw (d, ← by_operands, counted_none (to_buffer (held_by a s)) q (buffer_counted a s h ∙ sym e ∙ d)) (sym (giving_none q out))
 
-      by_operands : concat_res integer_bits a s b t
-          ≡ a_buffer (as_bytes a s >>= λ l. as_bytes b t >>= λ r. passing (short l r) >>= λ _. given (ended (body l ++ body r)))
-      unfolding concat_res joined_resources
-      by_operands = lent_two s t _ h g
+    module _ (n : ℕ) (d : first ≡ LA.Length n) (second : LengthAnswer) (f : second ≡ buffer_length b t) where
+      abbrev left : List ℕ
+      left = text_bytes (to_buffer (held_by a s))
 
-      pub res-left : OneOf not_buffer (tag_of the_type one) → told (said one) out ≡ delivered (concat_res integer_bits a s b t) out
-      res-left k =
-          no_bytes one (as_bytes a s) (rw (asBuffer-short integer_bits a s h) at e) k (λ r p q. rw p (delivers_refused r out (by_operands ∙ rw q)))
+      abbrev right : List ℕ
+      right = text_bytes (to_buffer (held_by b t))
 
-      module _ (n : ℕ) (d : one ≡ A.Buffer n) (two : Answer) (f : said two ≡ saying (as_buffer integer_bits b t)) where
-        pub res-right : OneOf not_buffer (tag_of the_type two) → told (said two) out ≡ delivered (concat_res integer_bits a s b t) out
-        res-right k =
-            no_bytes two (as_bytes b t) (rw (asBuffer-short integer_bits b t g) at f) k
-            (λ r p q. bytes_counted a s h one n e d (λ l i z. rw p (delivers_refused r out (by_operands ∙ rw (i, q)))))
+      left_is : to_buffer (held_by a s) ≡ these left
+      left_is = counted_these (to_buffer (held_by a s)) n (buffer_counted a s h ∙ sym e ∙ d)
 
-        module _ (m : ℕ) (k : two ≡ A.Buffer m) where
-          -- both are there, and as long as they were counted
-          counted : {X : Type 0} → ((l r : List ℕ) → as_bytes a s ≡ given l → as_bytes b t ≡ given r → length l ≡ n → length r ≡ m → X) → X
-          counted f' = bytes_counted a s h one n e d (λ l i y. bytes_counted b t g two m f k (λ r j z. f' l r i j y z))
+      left_length : n ≡ length left
+      left_length = counted_length (to_buffer (held_by a s)) n (buffer_counted a s h ∙ sym e ∙ d)
 
-          module _ (few : Bool) (o : few ≡ (eqb n 1 || eqb m 1)) where
-            judged : (l r : List ℕ) → length l ≡ n → length r ≡ m → as_bytes a s ≡ given l → as_bytes b t ≡ given r
-                → concat_res integer_bits a s b t ≡ a_buffer (passing ((few, R.ResourceDescriptorTooShort) ∷ []) >>= λ _. given (ended (body l ++ body r)))
-            judged l r y z i j = by_operands ∙ rw (i, j, y, z, o)
+      pub res_right : (q : Refusal) → second ≡ LA.Refused q → given second out ≡ concat_res a s b t out
+      res_right q k =
+          rw (k, ← by_operands, left_is, counted_none (to_buffer (held_by b t)) q (buffer_counted b t g ∙ sym f ∙ k)) (sym (giving_none q out))
 
-            pub res-too-short : few ≡ true → concat_res integer_bits a s b t ≡ refused R.ResourceDescriptorTooShort
-            unfolding passing first_of
-            res-too-short x = counted (λ l r i j y z. judged l r y z i j ∙ rw x)
+      module _ (m : ℕ) (k : second ≡ LA.Length m) where
+        right_is : to_buffer (held_by b t) ≡ these right
+        right_is = counted_these (to_buffer (held_by b t)) m (buffer_counted b t g ∙ sym f ∙ k)
 
-            module _ (more : few ≡ false) (at : ℕ) (u : at ≡ n - 2) (end : ℕ) (v : end ≡ m - 2) where
-              made : (l r : List ℕ) → length l ≡ n → length r ≡ m → as_bytes a s ≡ given l → as_bytes b t ≡ given r
-                  → concat_res integer_bits a s b t ≡ given (bytes (ended (body l ++ body r)))
-              unfolding passing first_of
-              made l r y z i j = judged l r y z i j ∙ rw more
+        right_length : m ≡ length right
+        right_length = counted_length (to_buffer (held_by b t)) m (buffer_counted b t g ∙ sym f ∙ k)
 
-              pub res-no-room : length out < at + end + 2 → told (said (A.Refused R.OutputTooShort)) out ≡ delivered (concat_res integer_bits a s b t) out
-              res-no-room few =
-                  counted
-                  (λ l r i j y z.
-                  let c = ended_length l r at end (omega arith) (omega arith) in
-                  delivers-short (bytes (ended (body l ++ body r))) out (made l r y z i j) (omega arith))
+        by_bytes : giving (resources left right) out ≡ concat_res a s b t out
+        by_bytes = rw (left_is, right_is) at by_operands
 
-              pub res-done : at + end + 2 ≤ length out
-                  → (x : Answer) (p : List ℕ) → told (said x) p ≡ delivered (as_buffer integer_bits a s) out
-                  → (w : Answer) (q : List ℕ) → told (said w) q ≡ delivered (as_buffer integer_bits b t) (take (length p - at) (drop at p))
-                  → (o : List ℕ) → o ≡ into (ended (take (at + end) (put_mid at (length p - at) p q))) (put_mid at (length p - at) p q)
-                  → told (said (A.Buffer (at + end + 2))) o ≡ delivered (concat_res integer_bits a s b t) out
-              res-done room x p copied w q copied2 o tagged =
-                  counted
-                  (λ l r i j y z.
-                  let start : at ≡ length l - 2 = omega arith in
-                  let stop : end ≡ length r - 2 = omega arith in
-                  let c = ended_length l r at end start stop in
-                  let part = take (length p - at) (drop at p) in
-                  let f1 : p ≡ into l out = lands (bytes l) out copied (asBuffer-short integer_bits a s h ∙ rw i) (omega arith) in
-                  let f2 : q ≡ into r part =
-                  lands (bytes r) part copied2 (asBuffer-short integer_bits b t g ∙ rw j) (right_fits l r out p at end start stop room f1) in
-                  rw (resources_put l r out p at end start stop room f1 q f2 o tagged, ← c)
-                  (delivers (bytes (ended (body l ++ body r))) out (made l r y z i j) (omega arith)))
+        module _ (few : Bool) (o : few ≡ (eqb n 1 || eqb m 1)) where
+          judged_lengths : few ≡ (eqb (length left) 1 || eqb (length right) 1)
+          judged_lengths = rw (← left_length, ← right_length) o
+
+          pub res_too_short : few ≡ true → given (LA.Refused R.ResourceDescriptorTooShort) out ≡ concat_res a s b t out
+          unfolding first_of
+          res_too_short x = rw (← by_bytes, ← judged_lengths, x) (sym (giving_none R.ResourceDescriptorTooShort out))
+
+          module _ (more : few ≡ false) (at : ℕ) (i : at ≡ n - 2) (j : ℕ) (l : j ≡ m - 2) where
+            made : giving (these (ended (body left ++ body right))) out ≡ concat_res a s b t out
+            unfolding first_of
+            made = rw (← judged_lengths, more) at by_bytes
+
+            made_length : length (ended (body left ++ body right)) ≡ at + j + 2
+            made_length =
+                let c = body left ++ body right in
+                let x : length (body left) ≡ at = simp length-take (omega (arith, left_length)) in
+                let y : length (body right) ≡ j = simp length-take (omega (arith, right_length)) in
+                length-append c (0x79 ∷ (256 - (sum c + 0x79) % 256) % 256 ∷ []) ∙ omega (arith, length-append (body left) (body right))
+
+            pub res_no_room : length out < at + j + 2 → given (LA.Refused R.OutputTooShort) out ≡ concat_res a s b t out
+            res_no_room o = rw (← made) (sym (giving_short (ended (body left ++ body right)) out (omega (arith, made_length))))
+
+            module _ (room : at + j + 2 ≤ length out) (r : LengthAnswer) (u : List ℕ) (x : given r u ≡ as_buffer a s out) where
+              copied_left : u ≡ into left out
+              copied_left =
+                  ap (λ (z : Given). z.out) (x ∙ as_buffer_short a s h out ∙ ap (λ (z : Bytes). giving z out) left_is ∙ giving_these left out (omega (arith, left_length)))
+
+              module _ (v : LengthAnswer) (ys : List ℕ) (y : given v ys ≡ as_buffer b t (take (length u - at) (drop at u))) where
+                start : at ≡ length left - 2
+                start = omega (arith, left_length)
+
+                stop : at + j ≡ at + (length right - 2)
+                stop = omega (arith, right_length)
+
+                copied_right : ys ≡ into right (take (length u - at) (drop at u))
+                copied_right =
+                    ap (λ (z : Given). z.out)
+                    (y ∙ as_buffer_short b t g (take (length u - at) (drop at u)) ∙ ap (λ (z : Bytes). giving z (take (length u - at) (drop at u))) right_is
+                    ∙ giving_these right (take (length u - at) (drop at u)) (right_fits left right out u at (at + j) start stop room copied_left))
+
+                pub res_length : length (put_mid at (length u - at) u ys) ≡ length out
+                res_length = both_length left right out u at (at + j) start stop room copied_left ys copied_right
+
+                pub res_done : (w : List ℕ) → w ≡ into (ended (take (at + j) (put_mid at (length u - at) u ys))) (put_mid at (length u - at) u ys)
+                    → given (LA.Length (at + j + 2)) w ≡ concat_res a s b t out
+                res_done w z =
+                    let p = resources_put left right out u at (at + j) start stop room copied_left ys copied_right w z in
+                    rw (p, ← made_length) (sym (giving_these (ended (body left ++ body right)) out (omega (arith, made_length))) ∙ made)

@@ -1,16 +1,22 @@
 -- Document 01, "Operators": "Building a buffer answers as many bytes as the size, converted to integer, says: the initial bytes, then zeros."
 -- 11: "buffer built with a size below its initial bytes"; 20 last.
 -- Assumes nothing.
-use Rattle.std.specs.Prelude.{ℕ, ◌-◌, List, [], ◌∷◌, ◌++◌, length, replicate, nat_lt}
-use Rattle.types.specs.Answers.{given, ◌>>=◌, passing, room, bytes, Meaning}
-use Rattle.types.specs.Held.{Held}
+use Rattle.std.specs.Prelude.{ℕ, ◌-◌, List, [], ◌∷◌, ◌++◌, length, drop, replicate, nat_lt}
+use Rattle.types.specs.Refusals.{first_of, judged}
 use Rattle.types.specs.declared.refusal.Refusal.TheVariants as R
-use Rattle.value.specs.Conversions.{to_integer}
+use Rattle.types.specs.declared.value.AmlValue.{AmlValue}
+use Rattle.value.specs.Conversions.{held_by, to_integer, Given, given}
+use Rattle.value.specs.declared.convert.LengthAnswer.TheVariants as LA
+use Rattle.expression.specs.Numbers.{and_then, both_lent}
 
--- the room is judged by the size, before there is a list of so many bytes
-unfoldable pub built : ℕ → Held → List ℕ → List ℕ → Meaning
-built w size initial out = do
-  n ← to_integer w size
-  _ ← passing ((nat_lt n (length initial), R.MalformedBuffer) ∷ [])
-  _ ← room out n
-  given (bytes (initial ++ replicate (n - length initial) 0))
+-- of n bytes, with these at their front
+abbrev pub built : ℕ → List ℕ → List ℕ → Given
+built n initial out =
+    judged (first_of ((nat_lt n (length initial), R.MalformedBuffer) ∷ (nat_lt (length out) n, R.OutputTooShort) ∷ []))
+    (given (LA.Length n) (initial ++ (replicate (n - length initial) 0 ++ drop n out)))
+    (λ r. given (LA.Refused r) out)
+
+-- the size with its bytes, and the initial bytes
+unfoldable pub build_buffer : AmlValue → List ℕ → List ℕ → List ℕ → Given
+build_buffer v s initial out =
+    both_lent s initial (and_then (to_integer (held_by v s)) (λ n. built n initial out) (λ r. given (LA.Refused r) out)) (λ r. given (LA.Refused r) out)

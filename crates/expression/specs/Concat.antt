@@ -1,50 +1,121 @@
 -- Document 01, "Operators": Concat, with its names, and ConcatRes.
 -- Assumes nothing.
 use Rattle.std.specs.Prelude.{ℕ, ◌+◌, ◌-◌, ◌%◌, ◌||◌, List, [], ◌∷◌, ◌++◌, length, take, ◌==◌}
-use Rattle.bits.specs.Integers.{bytes_of}
-use Rattle.text.specs.Quoted.{ascii}
-use Rattle.types.specs.Answers.{Answered, given, ◌>>=◌, passing, Meaning, a_string, a_buffer}
-use Rattle.types.specs.Held.{Plain, boolean, integer, string, buffer, other, Held, unread}
+use Rattle.bits.specs.Bits.{bit_of, bytes}
+use Rattle.types.specs.Refusals.{first_of, judged}
+use Rattle.types.specs.declared.refusal.Refusal.{Refusal}
 use Rattle.types.specs.declared.refusal.Refusal.TheVariants as R
-use Rattle.value.specs.Conversions.{integer_of, string_of, to_integer, to_buffer}
-use Rattle.expression.specs.Names.{name_of}
+use Rattle.types.specs.declared.value.AmlType.{AmlType}
+use Rattle.types.specs.declared.value.AmlType.TheVariants as T
+use Rattle.types.specs.declared.value.AmlValue.{AmlValue}
+use Rattle.value.specs.Conversions.{Held, boolean, integer, string, buffer, buffer_field, field_unit, kind, held_by, truth_number, to_integer, to_buffer, Bytes, these, none, no, Given, given, giving}
+use Rattle.value.specs.declared.convert.LengthAnswer.{LengthAnswer}
+use Rattle.value.specs.declared.convert.LengthAnswer.TheVariants as LA
+use Rattle.expression.specs.Numbers.{and_then, both_lent}
+use Rattle.expression.specs.declared.number.Operands.{Operands}
+use Rattle.expression.specs.declared.number.Operands.TheVariants as Op
+use Rattle.expression.specs.declared.concat.ConcatAnswer.{ConcatAnswer}
+use Rattle.expression.specs.declared.concat.ConcatAnswer.TheVariants as C
 
 -- ---- Concat
 
--- "any other left is its string or name, and the right must be a String or a named kind, else 1"
-unfoldable pub text_of : ℕ → Plain → Answered (List ℕ)
-text_of w (boolean b) = string_of w (boolean b)
-text_of w (integer n) = string_of w (integer n)
-text_of w (string s) = string_of w (string s)
-text_of w (buffer s) = string_of w (buffer s)
-text_of w (other t) = given (ascii (name_of t))
+-- [Buffer Field], [Field], [Device], [Control Method], [Mutex], [Operation Region], [Package], [Processor], [Power Resource], [Thermal Zone];
+-- Integer, String and Buffer have none
+abbrev pub name_of : AmlType → List ℕ
+name_of T.BufferField = 91 ∷ 66 ∷ 117 ∷ 102 ∷ 102 ∷ 101 ∷ 114 ∷ 32 ∷ 70 ∷ 105 ∷ 101 ∷ 108 ∷ 100 ∷ 93 ∷ []
+name_of T.FieldUnit = 91 ∷ 70 ∷ 105 ∷ 101 ∷ 108 ∷ 100 ∷ 93 ∷ []
+name_of T.Device = 91 ∷ 68 ∷ 101 ∷ 118 ∷ 105 ∷ 99 ∷ 101 ∷ 93 ∷ []
+name_of T.Method = 91 ∷ 67 ∷ 111 ∷ 110 ∷ 116 ∷ 114 ∷ 111 ∷ 108 ∷ 32 ∷ 77 ∷ 101 ∷ 116 ∷ 104 ∷ 111 ∷ 100 ∷ 93 ∷ []
+name_of T.Mutex = 91 ∷ 77 ∷ 117 ∷ 116 ∷ 101 ∷ 120 ∷ 93 ∷ []
+name_of T.OpRegion = 91 ∷ 79 ∷ 112 ∷ 101 ∷ 114 ∷ 97 ∷ 116 ∷ 105 ∷ 111 ∷ 110 ∷ 32 ∷ 82 ∷ 101 ∷ 103 ∷ 105 ∷ 111 ∷ 110 ∷ 93 ∷ []
+name_of T.Package = 91 ∷ 80 ∷ 97 ∷ 99 ∷ 107 ∷ 97 ∷ 103 ∷ 101 ∷ 93 ∷ []
+name_of T.Processor = 91 ∷ 80 ∷ 114 ∷ 111 ∷ 99 ∷ 101 ∷ 115 ∷ 115 ∷ 111 ∷ 114 ∷ 93 ∷ []
+name_of T.PowerResource = 91 ∷ 80 ∷ 111 ∷ 119 ∷ 101 ∷ 114 ∷ 32 ∷ 82 ∷ 101 ∷ 115 ∷ 111 ∷ 117 ∷ 114 ∷ 99 ∷ 101 ∷ 93 ∷ []
+name_of T.ThermalZone = 91 ∷ 84 ∷ 104 ∷ 101 ∷ 114 ∷ 109 ∷ 97 ∷ 108 ∷ 32 ∷ 90 ∷ 111 ∷ 110 ∷ 101 ∷ 93 ∷ []
+name_of T.Integer = []
+name_of T.String = []
+name_of T.Buffer = []
+
+-- its string or name; "the right must be a String or a named kind, else 1"
+abbrev pub text_of : Held → Bytes
+text_of (string s) = these s
+text_of (buffer_field o n s) = these (name_of T.BufferField)
+text_of (field_unit f s) = these (name_of T.FieldUnit)
+text_of (kind t) = these (name_of t)
+text_of (boolean b) = none (no T.Integer T.String)
+text_of (integer n) = none (no T.Integer T.String)
+text_of (buffer s) = none (no T.Buffer T.String)
+
+-- the bytes of a text; none where there is no text
+abbrev pub text_bytes : Bytes → List ℕ
+text_bytes (these l) = l
+text_bytes (none r) = []
+
+-- what Concat makes: a Buffer, a String, or a refusal
+pub data Joined : Type 0 where
+  a_buffer : List ℕ → Joined
+  a_string : List ℕ → Joined
+  refused : Refusal → Joined
 
 -- "Integer or Boolean left gives 16 bytes, both integers lowest byte first"
-abbrev pub join_numbers : ℕ → Answered ℕ → Answered ℕ → Answered (List ℕ)
-join_numbers w left right = do
-  x ← left
-  y ← right
-  given (bytes_of w x ++ bytes_of w y)
+abbrev pub number_bytes : ℕ → List ℕ
+number_bytes n = bytes (bit_of n) 0 8
 
-abbrev pub join_bytes : Answered (List ℕ) → Answered (List ℕ) → Answered (List ℕ)
-join_bytes left right = do
-  x ← left
-  y ← right
-  given (x ++ y)
+abbrev pub join_numbers : ℕ → Held → Joined
+join_numbers x right = and_then (to_integer right) (λ y. a_buffer (number_bytes x ++ number_bytes y)) refused
 
-abbrev pub join_texts : ℕ → Plain → Plain → Answered (List ℕ)
-join_texts w left right = join_bytes (text_of w left) (text_of w right)
+-- the same of both operands, or what converting them refused
+abbrev pub join_operands : Operands → Joined
+join_operands (Op.Two x y) = a_buffer (number_bytes x ++ number_bytes y)
+join_operands (Op.Refused r) = refused r
 
--- by the left's type; "Buffer left appends the right as buffer"
-unfoldable pub joined_to : ℕ → Held → Plain → Meaning
-joined_to w right (boolean b) = a_buffer (join_numbers w (integer_of w (boolean b)) (to_integer w right))
-joined_to w right (integer n) = a_buffer (join_numbers w (integer_of w (integer n)) (to_integer w right))
-joined_to w right (string s) = a_string (join_texts w (string s) (unread right))
-joined_to w right (buffer s) = a_buffer (join_bytes (given s) (to_buffer w right))
-joined_to w right (other t) = a_string (join_texts w (other t) (unread right))
+-- "Buffer left appends the right as buffer"
+abbrev pub join_buffers : List ℕ → Bytes → Joined
+join_buffers l (these r) = a_buffer (l ++ r)
+join_buffers l (none r) = refused r
 
-unfoldable pub joined : ℕ → Held → Held → Meaning
-joined w left right = joined_to w right (unread left)
+-- "any other left is its string or name"
+abbrev pub join_texts : List ℕ → Bytes → Joined
+join_texts l (these r) = a_string (l ++ r)
+join_texts l (none r) = refused r
+
+-- the same of both texts, the left one's refusal first
+abbrev pub join_both : Bytes → Bytes → Joined
+join_both (these l) right = join_texts l right
+join_both (none r) right = refused r
+
+unfoldable pub joined : Held → Held → Joined
+joined (boolean b) right = join_numbers (truth_number b) right
+joined (integer x) right = join_numbers x right
+joined (buffer l) right = join_buffers l (to_buffer right)
+joined (string l) right = join_texts l (text_of right)
+joined (buffer_field o n s) right = join_texts (name_of T.BufferField) (text_of right)
+joined (field_unit f s) right = join_texts (name_of T.FieldUnit) (text_of right)
+joined (kind t) right = join_texts (name_of t) (text_of right)
+
+pub record Concatenated : Type 0 where
+  pub answer : ConcatAnswer
+  pub out : List ℕ
+
+abbrev pub concatenated : ConcatAnswer → List ℕ → Concatenated
+concatenated a out = record { answer = a; out = out }
+
+abbrev pub a_buffer_of : LengthAnswer → ConcatAnswer
+a_buffer_of (LA.Length n) = C.Buffer n
+a_buffer_of (LA.Refused r) = C.Refused r
+
+abbrev pub a_string_of : LengthAnswer → ConcatAnswer
+a_string_of (LA.Length n) = C.String n
+a_string_of (LA.Refused r) = C.Refused r
+
+-- 20 last
+abbrev pub delivered : Joined → List ℕ → Concatenated
+delivered (a_buffer l) out = concatenated (a_buffer_of (giving (these l) out).answer) (giving (these l) out).out
+delivered (a_string l) out = concatenated (a_string_of (giving (these l) out).answer) (giving (these l) out).out
+delivered (refused r) out = concatenated (C.Refused r) out
+
+unfoldable pub concat : AmlValue → List ℕ → AmlValue → List ℕ → List ℕ → Concatenated
+concat a s b t out = both_lent s t (delivered (joined (held_by a s) (held_by b t)) out) (λ r. concatenated (C.Refused r) out)
 
 -- ---- ConcatRes
 
@@ -61,9 +132,18 @@ abbrev pub ended : List ℕ → List ℕ
 ended l = l ++ (0x79 ∷ (256 - (sum l + 0x79) % 256) % 256 ∷ [])
 
 -- "6: ConcatRes, an operand of length 1"
-unfoldable pub joined_resources : ℕ → Held → Held → Answered (List ℕ)
-joined_resources w left right = do
-  x ← to_buffer w left
-  y ← to_buffer w right
-  _ ← passing ((length x == 1 || (length y == 1), R.ResourceDescriptorTooShort) ∷ [])
-  given (ended (body x ++ body y))
+abbrev pub resources : List ℕ → List ℕ → Bytes
+resources l r =
+    judged (first_of ((length l == 1 || (length r == 1), R.ResourceDescriptorTooShort) ∷ [])) (these (ended (body l ++ body r))) none
+
+abbrev pub join_right : List ℕ → Bytes → Bytes
+join_right l (these r) = resources l r
+join_right l (none r) = none r
+
+abbrev pub join_resources : Bytes → Bytes → Bytes
+join_resources (these l) right = join_right l right
+join_resources (none r) right = none r
+
+unfoldable pub concat_res : AmlValue → List ℕ → AmlValue → List ℕ → List ℕ → Given
+concat_res a s b t out =
+    both_lent s t (giving (join_resources (to_buffer (held_by a s)) (to_buffer (held_by b t))) out) (λ r. given (LA.Refused r) out)

@@ -1,7 +1,5 @@
-pub mod Operators
+pub mod Numbers
 pub mod Compare
-pub mod Names
-pub mod Concat
 pub mod Mid
+pub mod Concat
 pub mod Build
-pub mod Calls

@@ -1,55 +1,65 @@
 -- Document 01, "Operators": "Mid answers the part of the source from index to the smaller of index + length (unbounded) and the end, bytewise;
--- index at or past the end gives empty." "Mid: index, length, 5." "Changed forms": "one call for the number, one for the part, empty if refused".
+-- index at or past the end gives empty." "Mid: index, length, 5." "one call for the number, one for the part, empty if refused".
 -- Assumes nothing.
-use Rattle.std.specs.Prelude.{ℕ, min, List, [], length, take, drop}
-use Rattle.types.specs.Answers.{Answered, given, refused, ◌>>=◌, nothing, text, bytes, bytes_in, Meaning, gives, Said, said, saying}
-use Rattle.types.specs.Held.{Plain, boolean, integer, string, buffer, other, Held, unread, plain_type}
+use Rattle.std.specs.Prelude.{◌≡◌, ℕ, min, ◌||◌, List, [], ◌∷◌, length, take, drop}
+use Rattle.types.specs.Refusals.{first_of, judged}
 use Rattle.types.specs.declared.refusal.Refusal.TheVariants as R
-use Rattle.value.specs.Conversions.{to_integer}
+use Rattle.types.specs.declared.refusal.Outcome.{Outcome}
+use Rattle.types.specs.declared.refusal.Outcome.TheVariants as O
+use Rattle.types.specs.declared.value.AmlType.TheVariants as T
+use Rattle.types.specs.declared.value.AmlValue.{AmlValue}
+use Rattle.buffer_field.specs.BufferFields.{too_long}
+use Rattle.value.specs.Conversions.{Held, boolean, integer, string, buffer, buffer_field, field_unit, kind, held_by, to_integer, as_integer, Bytes, these, none}
+use Rattle.value.specs.declared.convert.IntegerAnswer.{IntegerAnswer}
+use Rattle.value.specs.declared.convert.IntegerAnswer.TheVariants as IA
+use Rattle.expression.specs.Numbers.{and_then}
+use Rattle.expression.specs.declared.mid.Place.{Place}
+use Rattle.expression.specs.declared.mid.Place.TheVariants as P
 
-abbrev pub part : ℕ → ℕ → List ℕ → List ℕ
-part index n s = take n (drop index s)
-
-abbrev pub not_sliced : Plain → Meaning
-not_sliced p = refused (R.TypeCannotBeSliced (plain_type p))
+-- from index to the smaller of index + length and the end
+abbrev pub part : List ℕ → ℕ → ℕ → List ℕ
+part s index n = take n (drop index s)
 
 -- "5: Mid of something other than Buffer or String"
-unfoldable pub part_of : ℕ → ℕ → Plain → Meaning
-part_of i n (boolean b) = not_sliced (boolean b)
-part_of i n (integer x) = not_sliced (integer x)
-part_of i n (string s) = given (text (part i n s))
-part_of i n (buffer s) = given (bytes (part i n s))
-part_of i n (other t) = not_sliced (other t)
+abbrev pub source : Held → ℕ → ℕ → Bytes
+source (string s) i n = these (part s i n)
+source (buffer s) i n = these (part s i n)
+source (boolean b) i n = none (R.TypeCannotBeSliced T.Integer)
+source (integer x) i n = none (R.TypeCannotBeSliced T.Integer)
+source (buffer_field o m s) i n = none (R.TypeCannotBeSliced T.BufferField)
+source (field_unit f s) i n = none (R.TypeCannotBeSliced T.FieldUnit)
+source (kind t) i n = none (R.TypeCannotBeSliced t)
 
-unfoldable pub sliced : ℕ → Held → Held → Held → Meaning
-sliced w source index n = do
-  x ← to_integer w index
-  y ← to_integer w n
-  part_of x y (unread source)
+-- the source, the index and the length, each with its bytes
+unfoldable pub mid : AmlValue → List ℕ → AmlValue → List ℕ → AmlValue → List ℕ → Bytes
+mid v s i is n ns =
+    judged (first_of ((too_long s || (too_long is || too_long ns), R.TooManyBytes) ∷ []))
+    (and_then (to_integer (held_by i is)) (λ x. and_then (to_integer (held_by n ns)) (λ y. source (held_by v s) x y) none) none)
+    none
 
--- the first call: whether it is refused
-abbrev pub mid_done : Meaning → Meaning
-mid_done m = m >>= λ _. gives nothing
+abbrev pub mid_outcome : Bytes → Outcome
+mid_outcome (these l) = O.Done
+mid_outcome (none r) = O.Refused r
 
--- the second call: the part
-abbrev pub mid_part : Meaning → List ℕ
-mid_part (given v) = bytes_in v
-mid_part (refused r) = []
+abbrev pub mid_part : Bytes → List ℕ
+mid_part (these l) = l
+mid_part (none r) = []
 
--- ---- both at once, for who cannot be handed a part: what there is, and where in the source it begins: at its index, or at the end
+-- where the part begins in a source of this size: at its index, or at the end
+abbrev pub place_of : IntegerAnswer → ℕ → ℕ
+place_of (IA.Integer x) size = min x size
+place_of (IA.Refused r) size = 0
 
-abbrev pub start_of : Answered ℕ → ℕ → ℕ
-start_of (given x) size = min x size
-start_of (refused r) size = 0
+-- there, and of how many bytes
+abbrev pub placed : Bytes → ℕ → Place
+placed (these l) at = P.At at (length l)
+placed (none r) at = P.Refused r
 
-pub record PlacedPart : Type 0 where
-  pub says : Said
-  pub start : ℕ
+abbrev pub mid_place : AmlValue → List ℕ → AmlValue → List ℕ → AmlValue → List ℕ → Place
+mid_place v s i is n ns = placed (mid v s i is n ns) (place_of (as_integer i is) (length s))
 
-abbrev pub placed_part : Said → ℕ → PlacedPart
-placed_part s n = record { says = s; start = n }
-
--- of Mid, its index and the source's size; a refusal has no place
-unfoldable pub placing : Meaning → Answered ℕ → ℕ → PlacedPart
-placing (given v) index size = placed_part (saying (given v)) (start_of index size)
-placing (refused r) index size = placed_part (saying (refused r)) 0
+-- the bytes so placed in the source are the part
+abbrev pub PartIsThePart : Type 0
+PartIsThePart =
+    (v : AmlValue) (s : List ℕ) (i : AmlValue) (is : List ℕ) (n : AmlValue) (ns : List ℕ)
+    → take (length (mid_part (mid v s i is n ns))) (drop (place_of (as_integer i is) (length s)) s) ≡ mid_part (mid v s i is n ns)

@@ -2,182 +2,133 @@
 // All lengths are known before the first byte is written: a refusal changes nothing.
 ghost use Rattle.std.specs.Prelude.{◌≡◌, ◌+◌, ◌-◌, ◌%◌, ◌≤◌, ◌||◌, ◌==◌};
 ghost use lib.ListN;
-ghost use Rattle.bits.specs.Integers.{integer_bits};
-ghost use Rattle.text.specs.Quoted.{ascii};
-ghost use Rattle.types.specs.Limits.{most_bytes};
-ghost use Rattle.types.specs.Answers as M;
-ghost use Rattle.types.specs.Answers.{said, saying, told, delivered, into, a_string, a_buffer};
-ghost use Rattle.types.specs.Held.{held_by, unread};
-ghost use Rattle.value.specs.Conversions.{to_integer, to_buffer};
-ghost use Rattle.expression.specs.Names.{name_of};
+ghost use Rattle.value.specs.Conversions.{held_by, to_buffer, given, into, none, no};
+ghost use Rattle.types.specs.declared.value.AmlType.TheVariants as T;
+ghost use Rattle.value.specs.Lengths.{length_of};
 ghost use Rattle.expression.specs.Concat as C;
-ghost use Rattle.expression.specs.Calls as Calls;
 
-use types::answer::Answer;
-use types::limit::MOST_BYTES;
+use crate::answer::length_refusal;
+use crate::number::{Operands, both_operands};
 use types::refusal::Refusal;
 use types::value::{AmlType, AmlValue, type_of};
-use value::convert::{as_buffer, as_integer, as_string, buffer_length, string_length};
+use value::convert::{LengthAnswer, as_buffer, buffer_length};
 
-// Both integers, eight bytes each.
-fn put_numbers(x: u64, y: u64, out: &mut [u8]) -> Answer
-    ensures { told (said result) out.new
-        ≡ delivered (a_buffer (C.join_numbers integer_bits (M.given x) (M.given y))) out.old }
-{
-    if out.len() < 16 {
-        return Answer::Refused(Refusal::OutputTooShort);
-    }
-    bits::unit::store(out, 0, 8, x);
-    bits::unit::store(&mut out[8..], 0, 8, y);
-    Answer::Buffer(16)
+#[derive(Drop)]
+pub enum ConcatAnswer {
+    String(usize),
+    Buffer(usize),
+    Refused(Refusal),
 }
 
-// The same of an Integer or a Boolean on the left, or what converting refused.
-fn concat_numbers(
-    left: AmlValue,
+// Both integers, eight bytes each, or what converting refused.
+fn concat_numbers(both: Operands, out: &mut [u8]) -> ConcatAnswer
+    ensures { C.concatenated result out.new ≡ C.delivered (C.join_operands both) out.old }
+{
+    match both {
+        Operands::Two(x, y) => {
+            if out.len() < 16 {
+                return ConcatAnswer::Refused(Refusal::OutputTooShort);
+            }
+            bits::unit::store(out, 0, 8, x);
+            bits::unit::store(&mut out[8..], 0, 8, y);
+            ConcatAnswer::Buffer(16)
+        }
+        Operands::Refused(r) => ConcatAnswer::Refused(r),
+    }
+}
+
+// The left bytes, then the right side as a buffer.
+fn concat_buffers(
     left_bytes: &[u8],
     right: AmlValue,
     right_bytes: &[u8],
     out: &mut [u8],
-) -> Answer
-    requires { (lib.ListN.length left_bytes.now ≤ most_bytes) × (lib.ListN.length right_bytes.now ≤ most_bytes) }
-    ensures { told (said result) out.new
-        ≡ delivered (a_buffer (C.join_numbers integer_bits (to_integer integer_bits (held_by integer_bits left left_bytes.now))
-        (to_integer integer_bits (held_by integer_bits right right_bytes.now)))) out.old }
-{
-    let first = as_integer(left, left_bytes);
-    let Answer::Integer(x) = first else {
-        return first;
-    };
-    let second = as_integer(right, right_bytes);
-    let Answer::Integer(y) = second else {
-        return second;
-    };
-    put_numbers(x, y, out)
-}
-
-// The left bytes, then the right side as a buffer.
-fn concat_buffers(left_bytes: &[u8], right: AmlValue, right_bytes: &[u8], out: &mut [u8]) -> Answer
-    requires { lib.ListN.length right_bytes.now ≤ most_bytes }
-    ensures { told (said result) out.new
-        ≡ delivered (a_buffer (C.join_bytes (M.given left_bytes.now)
-        (to_buffer integer_bits (held_by integer_bits right right_bytes.now)))) out.old }
+) -> ConcatAnswer
+    requires { lib.ListN.length right_bytes.now ≤ 65536 }
+    ensures { C.concatenated result out.new ≡ C.delivered (C.join_buffers left_bytes.now (to_buffer (held_by right right_bytes.now))) out.old }
 {
     let counted = buffer_length(right, right_bytes);
-    let Answer::Buffer(n) = counted else {
-        return counted;
+    let LengthAnswer::Length(n) = counted else {
+        return ConcatAnswer::Refused(length_refusal(counted));
     };
     if out.len() < left_bytes.len() {
-        return Answer::Refused(Refusal::OutputTooShort);
+        return ConcatAnswer::Refused(Refusal::OutputTooShort);
     }
     if out.len() - left_bytes.len() < n {
-        return Answer::Refused(Refusal::OutputTooShort);
+        return ConcatAnswer::Refused(Refusal::OutputTooShort);
     }
     let at = bytes::copy(left_bytes, out);
     as_buffer(right, right_bytes, &mut out[at..]);
-    Answer::Buffer(at + n)
+    ConcatAnswer::Buffer(at + n)
 }
 
-// A name: the first bytes, so many.
-#[derive(Drop)]
-struct Name {
-    bytes: [u8; 18],
-    length: usize,
-}
-
-// The name of a kind without bytes; Integer, String and Buffer have none.
-fn name_of(kind: AmlType) -> Name
-    ensures { (lib.ListN.take result.length result.bytes ≡ ascii (name_of kind)) × (result.length ≤ 18) }
+fn name_length(kind: AmlType) -> usize
+    ensures { result ≡ lib.ListN.length (C.name_of kind) }
 {
     match kind {
-        AmlType::BufferField => Name {
-            bytes: *b"[Buffer Field]    ",
-            length: 14,
-        },
-        AmlType::FieldUnit => Name {
-            bytes: *b"[Field]           ",
-            length: 7,
-        },
-        AmlType::Device => Name {
-            bytes: *b"[Device]          ",
-            length: 8,
-        },
-        AmlType::Method => Name {
-            bytes: *b"[Control Method]  ",
-            length: 16,
-        },
-        AmlType::Mutex => Name {
-            bytes: *b"[Mutex]           ",
-            length: 7,
-        },
-        AmlType::OpRegion => Name {
-            bytes: *b"[Operation Region]",
-            length: 18,
-        },
-        AmlType::Package => Name {
-            bytes: *b"[Package]         ",
-            length: 9,
-        },
-        AmlType::Processor => Name {
-            bytes: *b"[Processor]       ",
-            length: 11,
-        },
-        AmlType::PowerResource => Name {
-            bytes: *b"[Power Resource]  ",
-            length: 16,
-        },
-        AmlType::ThermalZone => Name {
-            bytes: *b"[Thermal Zone]    ",
-            length: 14,
-        },
-        _ => Name {
-            bytes: [0u8; 18],
-            length: 0,
-        },
+        AmlType::BufferField => 14,
+        AmlType::FieldUnit => 7,
+        AmlType::Device => 8,
+        AmlType::Method => 16,
+        AmlType::Mutex => 7,
+        AmlType::OpRegion => 18,
+        AmlType::Package => 9,
+        AmlType::Processor => 11,
+        AmlType::PowerResource => 16,
+        AmlType::ThermalZone => 14,
+        _ => 0,
     }
 }
 
 // The name at the front of the output.
-fn put_name(kind: AmlType, out: &mut [u8]) -> Answer
-    ensures { told (said result) out.new ≡ delivered (M.given (M.text (ascii (name_of kind)))) out.old }
+fn put_name(kind: AmlType, out: &mut [u8]) -> usize
+    requires { lib.ListN.length (C.name_of kind) ≤ lib.ListN.length out.old }
+    ensures { out.new ≡ into (C.name_of kind) out.old }
 {
-    let name = name_of(kind);
-    let n = name.length;
-    let s = name.bytes;
-    if out.len() < n {
-        return Answer::Refused(Refusal::OutputTooShort);
+    match kind {
+        AmlType::BufferField => bytes::copy(b"[Buffer Field]", out),
+        AmlType::FieldUnit => bytes::copy(b"[Field]", out),
+        AmlType::Device => bytes::copy(b"[Device]", out),
+        AmlType::Method => bytes::copy(b"[Control Method]", out),
+        AmlType::Mutex => bytes::copy(b"[Mutex]", out),
+        AmlType::OpRegion => bytes::copy(b"[Operation Region]", out),
+        AmlType::Package => bytes::copy(b"[Package]", out),
+        AmlType::Processor => bytes::copy(b"[Processor]", out),
+        AmlType::PowerResource => bytes::copy(b"[Power Resource]", out),
+        AmlType::ThermalZone => bytes::copy(b"[Thermal Zone]", out),
+        _ => 0,
     }
-    Answer::String(bytes::copy(&s[..n], out))
 }
 
-// How long a value's string or name is.
-fn text_length(value: AmlValue, bytes: &[u8]) -> Answer
-    requires { lib.ListN.length bytes.now ≤ most_bytes }
-    ensures { said result ≡ saying (a_string (C.text_of integer_bits (unread (held_by integer_bits value bytes.now)))) }
+// How long a value's string or name is; 1 for an Integer and a Buffer, which have neither.
+fn text_length(value: AmlValue, bytes: &[u8]) -> LengthAnswer
+    ensures { result ≡ length_of (C.text_of (held_by value bytes.now)) }
 {
     match value {
-        AmlValue::Boolean(_) => string_length(value, bytes),
-        AmlValue::Integer(_) => string_length(value, bytes),
-        AmlValue::String => string_length(value, bytes),
-        AmlValue::Buffer => string_length(value, bytes),
-        _ => {
-            let name = name_of(type_of(value));
-            Answer::String(name.length)
-        }
+        AmlValue::String => LengthAnswer::Length(bytes.len()),
+        AmlValue::Boolean(_) => no_text(AmlType::Integer),
+        AmlValue::Integer(_) => no_text(AmlType::Integer),
+        AmlValue::Buffer => no_text(AmlType::Buffer),
+        _ => LengthAnswer::Length(name_length(type_of(value))),
     }
+}
+
+fn no_text(current: AmlType) -> LengthAnswer
+    ensures { result ≡ length_of (none (no current T.String)) }
+{
+    LengthAnswer::Refused(Refusal::IncompatibleValueConversion {
+        current,
+        target: AmlType::String,
+    })
 }
 
 // The string or the name at the front of the output.
-fn put_text(value: AmlValue, bytes: &[u8], out: &mut [u8]) -> Answer
-    requires { lib.ListN.length bytes.now ≤ most_bytes }
-    ensures { told (said result) out.new
-        ≡ delivered (a_string (C.text_of integer_bits (unread (held_by integer_bits value bytes.now)))) out.old }
+fn put_text(value: AmlValue, bytes: &[u8], out: &mut [u8]) -> usize
+    requires { lib.ListN.length (C.text_bytes (C.text_of (held_by value bytes.now))) ≤ lib.ListN.length out.old }
+    ensures { out.new ≡ into (C.text_bytes (C.text_of (held_by value bytes.now))) out.old }
 {
     match value {
-        AmlValue::Boolean(_) => as_string(value, bytes, out),
-        AmlValue::Integer(_) => as_string(value, bytes, out),
-        AmlValue::String => as_string(value, bytes, out),
-        AmlValue::Buffer => as_string(value, bytes, out),
+        AmlValue::String => bytes::copy(bytes, out),
         _ => put_name(type_of(value), out),
     }
 }
@@ -189,29 +140,26 @@ fn concat_texts(
     right: AmlValue,
     right_bytes: &[u8],
     out: &mut [u8],
-) -> Answer
-    requires { (lib.ListN.length left_bytes.now ≤ most_bytes) × (lib.ListN.length right_bytes.now ≤ most_bytes) }
-    ensures { told (said result) out.new
-        ≡ delivered (a_string (C.join_texts integer_bits (unread (held_by integer_bits left left_bytes.now))
-        (unread (held_by integer_bits right right_bytes.now)))) out.old }
+) -> ConcatAnswer
+    ensures { C.concatenated result out.new ≡ C.delivered (C.join_both (C.text_of (held_by left left_bytes.now)) (C.text_of (held_by right right_bytes.now))) out.old }
 {
     let first = text_length(left, left_bytes);
-    let Answer::String(n) = first else {
-        return first;
+    let LengthAnswer::Length(n) = first else {
+        return ConcatAnswer::Refused(length_refusal(first));
     };
     let second = text_length(right, right_bytes);
-    let Answer::String(m) = second else {
-        return second;
+    let LengthAnswer::Length(m) = second else {
+        return ConcatAnswer::Refused(length_refusal(second));
     };
     if out.len() < n {
-        return Answer::Refused(Refusal::OutputTooShort);
+        return ConcatAnswer::Refused(Refusal::OutputTooShort);
     }
     if out.len() - n < m {
-        return Answer::Refused(Refusal::OutputTooShort);
+        return ConcatAnswer::Refused(Refusal::OutputTooShort);
     }
     put_text(left, left_bytes, out);
     put_text(right, right_bytes, &mut out[n..]);
-    Answer::String(n + m)
+    ConcatAnswer::String(n + m)
 }
 
 // DefConcat, at the front of the output.
@@ -221,19 +169,24 @@ pub fn def_concat(
     right: AmlValue,
     right_bytes: &[u8],
     out: &mut [u8],
-) -> Answer
-    ensures { told (said result) out.new
-        ≡ delivered (Calls.concat integer_bits left left_bytes.now right right_bytes.now) out.old }
+) -> ConcatAnswer
+    ensures { C.concatenated result out.new ≡ C.concat left left_bytes.now right right_bytes.now out.old }
 {
-    if MOST_BYTES < left_bytes.len() {
-        return Answer::Refused(Refusal::TooManyBytes);
+    if 65536 < left_bytes.len() {
+        return ConcatAnswer::Refused(Refusal::TooManyBytes);
     }
-    if MOST_BYTES < right_bytes.len() {
-        return Answer::Refused(Refusal::TooManyBytes);
+    if 65536 < right_bytes.len() {
+        return ConcatAnswer::Refused(Refusal::TooManyBytes);
     }
     match left {
-        AmlValue::Boolean(_) => concat_numbers(left, left_bytes, right, right_bytes, out),
-        AmlValue::Integer(_) => concat_numbers(left, left_bytes, right, right_bytes, out),
+        AmlValue::Boolean(_) => concat_numbers(
+            both_operands(left, left_bytes, right, right_bytes),
+            out,
+        ),
+        AmlValue::Integer(_) => concat_numbers(
+            both_operands(left, left_bytes, right, right_bytes),
+            out,
+        ),
         AmlValue::Buffer => concat_buffers(left_bytes, right, right_bytes, out),
         _ => concat_texts(left, left_bytes, right, right_bytes, out),
     }
@@ -286,36 +239,34 @@ pub fn def_concat_res(
     right: AmlValue,
     right_bytes: &[u8],
     out: &mut [u8],
-) -> Answer
-    ensures { told (said result) out.new
-        ≡ delivered (Calls.concat_res integer_bits left left_bytes.now right right_bytes.now)
-        out.old }
+) -> LengthAnswer
+    ensures { given result out.new ≡ C.concat_res left left_bytes.now right right_bytes.now out.old }
 {
-    if MOST_BYTES < left_bytes.len() {
-        return Answer::Refused(Refusal::TooManyBytes);
+    if 65536 < left_bytes.len() {
+        return LengthAnswer::Refused(Refusal::TooManyBytes);
     }
-    if MOST_BYTES < right_bytes.len() {
-        return Answer::Refused(Refusal::TooManyBytes);
+    if 65536 < right_bytes.len() {
+        return LengthAnswer::Refused(Refusal::TooManyBytes);
     }
     let first = buffer_length(left, left_bytes);
-    let Answer::Buffer(n) = first else {
+    let LengthAnswer::Length(n) = first else {
         return first;
     };
     let second = buffer_length(right, right_bytes);
-    let Answer::Buffer(m) = second else {
+    let LengthAnswer::Length(m) = second else {
         return second;
     };
     if too_short(n, m) {
-        return Answer::Refused(Refusal::ResourceDescriptorTooShort);
+        return LengthAnswer::Refused(Refusal::ResourceDescriptorTooShort);
     }
     let at = body_length(n);
     let end = at + body_length(m);
     let size = end + 2;
     if out.len() < size {
-        return Answer::Refused(Refusal::OutputTooShort);
+        return LengthAnswer::Refused(Refusal::OutputTooShort);
     }
     as_buffer(left, left_bytes, out);
     as_buffer(right, right_bytes, &mut out[at..]);
     end_tag(out, end);
-    Answer::Buffer(size)
+    LengthAnswer::Length(size)
 }

@@ -1,24 +1,17 @@
-// Mid: what the part is and where it stands in its source; then whether it is refused, and the part itself, empty where it is.
-ghost use Rattle.std.specs.Prelude.{◌≡◌, ◌-◌, ◌≤◌, min};
-ghost use Rattle.std.proofs.Math.ListN;
-ghost use Rattle.bits.specs.Integers.{integer_bits};
-ghost use Rattle.types.specs.Limits.{most_bytes};
-ghost use Rattle.types.specs.Answers as A;
-ghost use Rattle.types.specs.Answers.{said, saying};
+// Mid: where the part stands in its source, or the refusal; then each of the two alone, the part being empty where Mid is refused.
+ghost use Rattle.std.specs.Prelude.{◌≡◌, ◌-◌, min};
 ghost use Rattle.expression.specs.Mid as M;
-ghost use Rattle.expression.specs.Calls as Calls;
+ghost use Rattle.expression.specs.declared.mid.Place.TheVariants as P;
 
-use types::answer::Answer;
-use types::limit::MOST_BYTES;
-use types::refusal::Refusal;
+use crate::number::{Operands, both_operands};
+use types::refusal::{Outcome, Refusal};
 use types::value::{AmlValue, type_of};
-use value::convert::as_integer;
 
-// A part of the source: a String's or a Buffer's and of how many bytes, or the refusal; and where in the source it begins.
+// Where the part begins in the source, at its index or at the end, and how many bytes it has.
 #[derive(Drop)]
-pub struct Part {
-    pub answer: Answer,
-    pub start: u64,
+pub enum Place {
+    At(u64, u64),
+    Refused(Refusal),
 }
 
 fn lesser(a: u64, b: u64) -> u64
@@ -27,11 +20,12 @@ fn lesser(a: u64, b: u64) -> u64
     if a <= b { a } else { b }
 }
 
-// No part, and why.
-fn no_part(answer: Answer) -> Part
-    ensures { M.placed_part (said result.answer) result.start ≡ M.placed_part (said answer) 0 }
+// The part from index, of so many bytes where there are as many.
+fn cut(size: u64, index: u64, count: u64) -> Place
+    ensures { result ≡ P.At (min index size) (min count (size - min index size)) }
 {
-    Part { answer, start: 0 }
+    let at = lesser(index, size);
+    Place::At(at, lesser(count, size - at))
 }
 
 // "index, length, 5"; 27 of any of the three first.
@@ -42,41 +36,20 @@ pub fn def_mid_place(
     index_bytes: &[u8],
     length: AmlValue,
     length_bytes: &[u8],
-) -> Part
-    ensures { M.placed_part (said result.answer) result.start
-        ≡ Calls.mid_place integer_bits source source_bytes.now index index_bytes.now
-        length length_bytes.now }
+) -> Place
+    ensures { result ≡ M.mid_place source source_bytes.now index index_bytes.now length length_bytes.now }
 {
-    if MOST_BYTES < source_bytes.len() {
-        return no_part(Answer::Refused(Refusal::TooManyBytes));
+    if 65536 < source_bytes.len() {
+        return Place::Refused(Refusal::TooManyBytes);
     }
-    if MOST_BYTES < index_bytes.len() {
-        return no_part(Answer::Refused(Refusal::TooManyBytes));
-    }
-    if MOST_BYTES < length_bytes.len() {
-        return no_part(Answer::Refused(Refusal::TooManyBytes));
-    }
-    let first = as_integer(index, index_bytes);
-    let Answer::Integer(x) = first else {
-        return no_part(first);
-    };
-    let second = as_integer(length, length_bytes);
-    let Answer::Integer(y) = second else {
-        return no_part(second);
-    };
-    let size = source_bytes.len() as u64;
-    let start = lesser(x, size);
-    let count = lesser(y, size - start) as usize;
-    match source {
-        AmlValue::String => Part {
-            answer: Answer::String(count),
-            start,
+    let both = both_operands(index, index_bytes, length, length_bytes);
+    match both {
+        Operands::Two(at, count) => match source {
+            AmlValue::String => cut(source_bytes.len() as u64, at, count),
+            AmlValue::Buffer => cut(source_bytes.len() as u64, at, count),
+            _ => Place::Refused(Refusal::TypeCannotBeSliced(type_of(source))),
         },
-        AmlValue::Buffer => Part {
-            answer: Answer::Buffer(count),
-            start,
-        },
-        _ => no_part(Answer::Refused(Refusal::TypeCannotBeSliced(type_of(source)))),
+        Operands::Refused(r) => Place::Refused(r),
     }
 }
 
@@ -88,12 +61,10 @@ pub fn def_mid(
     index_bytes: &[u8],
     length: AmlValue,
     length_bytes: &[u8],
-) -> Answer
-    ensures { said result
-        ≡ saying (M.mid_done (Calls.mid integer_bits source source_bytes.now index index_bytes.now
-        length length_bytes.now)) }
+) -> Outcome
+    ensures { result ≡ M.mid_outcome (M.mid source source_bytes.now index index_bytes.now length length_bytes.now) }
 {
-    let part = def_mid_place(
+    let found = def_mid_place(
         source,
         source_bytes,
         index,
@@ -101,10 +72,9 @@ pub fn def_mid(
         length,
         length_bytes,
     );
-    let answer = part.answer;
-    match answer {
-        Answer::Refused(r) => Answer::Refused(r),
-        _ => Answer::Done,
+    match found {
+        Place::At(_, _) => Outcome::Done,
+        Place::Refused(r) => Outcome::Refused(r),
     }
 }
 
@@ -117,11 +87,9 @@ pub fn def_mid_part<'a>(
     length: AmlValue,
     length_bytes: &[u8],
 ) -> &'a [u8]
-    ensures { result.now
-        ≡ M.mid_part (Calls.mid integer_bits source source_bytes.now index index_bytes.now
-        length length_bytes.now) }
+    ensures { result.now ≡ M.mid_part (M.mid source source_bytes.now index index_bytes.now length length_bytes.now) }
 {
-    let part = def_mid_place(
+    let found = def_mid_place(
         source,
         source_bytes,
         index,
@@ -129,12 +97,9 @@ pub fn def_mid_part<'a>(
         length,
         length_bytes,
     );
-    let at = part.start as usize;
-    let answer = part.answer;
-    let rest = &source_bytes[at..];
-    match answer {
-        Answer::String(n) => &rest[..n],
-        Answer::Buffer(n) => &rest[..n],
-        _ => &rest[..0],
-    }
+    let Place::At(at, count) = found else {
+        return &source_bytes[..0];
+    };
+    let end = at + count;
+    &source_bytes[at as usize..end as usize]
 }

@@ -1,85 +1,132 @@
--- What the calls answer, by what the checks handed on: a refusal is given back and the region stays, a width gives the meaning.
+-- What the calls answer, once the checks are known: a refusal gives it back with the region as it was, and no refusal gives the meaning. The
+-- checks hand on the width of a field that they accept.
 -- Assumes nothing.
 use mathlib.Core.Path.{◌≡◌, refl, sym, ap, ◌∙◌}
-use mathlib.Core.Bool.{Bool, true, false}
+use mathlib.Core.Bool.{Bool, true, false, cond, not}
 use mathlib.Core.List.{List}
-use Prim.Native.Nat.{ℕ, ◌+◌, ◌-◌, ◌^◌, ◌≤◌, ◌<◌}
-use native.Mathlib.Omega.{arith}
+use Prim.Native.Nat.{ℕ, ◌≤◌, ◌<◌}
 use borrow.Author.Tests.{lt-ltb, le-ltb}
+use lib.Dec.{ltb}
 use lib.ListN.{length}
-use Rattle.bits.specs.Integers.{integer_bits}
-use Rattle.types.specs.Flags.{access_width}
-use Rattle.types.specs.Answers.{Reported, reported, said, refusal}
-use Rattle.types.specs.declared.answer.Answer.TheVariants as A
+use Rattle.types.specs.Refusals.{judged}
 use Rattle.types.specs.declared.refusal.Refusal.{Refusal}
+use Rattle.types.specs.declared.refusal.Outcome.{Outcome}
+use Rattle.types.specs.declared.refusal.Outcome.TheVariants as O
 use Rattle.types.specs.declared.value.FieldUnit.{FieldUnit}
-use Rattle.field_unit.specs.Checks.{first_unit, last_unit}
-use Rattle.field_unit.specs.Accesses.{progress, first, last, act, whole}
-use Rattle.field_unit.specs.Calls.{plan_of, reading, writing, count_of, count, read_field, stored, write_field, access_at, stepped, held, next_access}
+use Rattle.field_unit.specs.Accesses.{progress, act, whole}
+use Rattle.field_unit.specs.Calls.{plan_of, reading, writing, count_of, checked, Accepted, count, read_field, Wrote, wrote, write_field, access_at, Stepped, stepped, held, next_access}
 use Rattle.field_unit.specs.declared.access.FieldOp.{FieldOp}
 use Rattle.field_unit.specs.declared.check.Checked.{Checked}
 use Rattle.field_unit.specs.declared.check.Checked.TheVariants as C
-use Rattle.field_unit.specs.declared.next.CountAnswer.TheVariants as N
-use Rattle.field_unit.specs.declared.next.Accessed.TheVariants as S
-use Rattle.field_unit.proofs.AccessAt.{in_order, units-fit, read_count}
-use Rattle.field_unit.proofs.Checking.{handed, was-done, was-refused}
-use Rattle.field_unit.proofs.Contents.{unit-held, read_refused, read_short, write-refused, write_done}
+use Rattle.field_unit.specs.declared.whole.UnitRead.TheVariants as UR
+use Rattle.field_unit.specs.declared.whole.UnitWritten.TheVariants as UW
+use Rattle.field_unit.specs.declared.next.Accessed.TheVariants as N
 
--- ---- a field that was accepted
+pub not_true : (b : Bool) → not b ≡ true → b ≡ false
+not_true true e = sym e
+not_true false e = refl
 
-module _ (write : Bool) (f : FieldUnit) (size : ℕ) {x : Checked} (e : x ≡ handed write f size) (w : ℕ) (d : x ≡ C.Width w)
-    (fi la : ℕ) (ef : fi ≡ first_unit (access_width f.flags.0) f.offset) (el : la ≡ last_unit (access_width f.flags.0) f.offset f.length) where
-  pub units-ordered : fi ≤ la
-  units-ordered = in_order (record { write = write; field = f; value = 0 }) size (was-done write f size e w d) ef el
+pub not_false : (b : Bool) → not b ≡ false → b ≡ true
+not_false true e = refl
+not_false false e = sym e
 
-  pub units-few : la - fi + 1 < 2 ^ 64
-  units-few = units-fit (record { write = write; field = f; value = 0 }) size (was-done write f size e w d) ef el
+-- ---- the checks and the width
 
--- ---- how many
+abbrev outcome_of : Checked → Outcome
+outcome_of (C.Width w) = O.Done
+outcome_of (C.Refused r) = O.Refused r
 
-module _ (o : FieldOp) (size : ℕ) {x : Checked} (e : x ≡ handed o.write o.field size) where
-  pub count-given-back : (r : Refusal) → x ≡ C.Refused r → N.Refused r ≡ count o size
+abbrev width_in : Checked → ℕ
+width_in (C.Width w) = w
+width_in (C.Refused r) = 0
+
+abbrev pub width_or : Outcome → ℕ → Checked
+width_or x w = judged x (C.Width w) C.Refused
+
+pub hands_on : (w v : ℕ) {y : Outcome} → O.Done ≡ y → w ≡ v → C.Width w ≡ width_or y v
+hands_on w v d e = ap C.Width e ∙ ap (λ z. width_or z v) d
+
+pub gives_back : (v : ℕ) {r : Refusal} {y : Outcome} → O.Refused r ≡ y → C.Refused r ≡ width_or y v
+gives_back v d = ap (λ z. width_or z v) d
+
+outcome_back : (x : Outcome) (w : ℕ) → outcome_of (width_or x w) ≡ x
+outcome_back O.Done w = refl
+outcome_back (O.Refused r) w = refl
+
+module _ (y : Outcome) (v : ℕ) {x : Checked} (e : x ≡ width_or y v) where
+  judged_as : outcome_of x ≡ y
+  judged_as = ap outcome_of e ∙ outcome_back y v
+
+  pub was_done : (w : ℕ) → x ≡ C.Width w → O.Done ≡ y
+  was_done w d = ap outcome_of (sym d) ∙ judged_as
+
+  pub was_refused : (r : Refusal) → x ≡ C.Refused r → O.Refused r ≡ y
+  was_refused r d = ap outcome_of (sym d) ∙ judged_as
+
+  was_width : (w : ℕ) → x ≡ C.Width w → w ≡ v
+  was_width w d = ap width_in (sym d ∙ e ∙ ap (λ z. width_or z v) (sym (was_done w d)))
+
+module _ (o : FieldOp) (size : ℕ) {x : Checked} (e : x ≡ width_or (checked o size) (plan_of o).width) where
+  pub accepted : (w : ℕ) → x ≡ C.Width w → (Accepted o size) × (w ≡ (plan_of o).width)
+  accepted w d = (sym (was_done (checked o size) (plan_of o).width e w d), was_width (checked o size) (plan_of o).width e w d)
+
+  -- r is the refusal, where there is one
+  pub refused_by : (q r : Refusal) → x ≡ C.Refused q → ((p : Refusal) → x ≡ C.Refused p → r ≡ p) → checked o size ≡ O.Refused r
+  refused_by q r d g = sym (was_refused (checked o size) (plan_of o).width e q d) ∙ ap O.Refused (sym (g q d))
+
+-- ---- the answers
+
+module _ (o : FieldOp) (size : ℕ) where
+  pub count_refused : (r : Refusal) → checked o size ≡ O.Refused r → UW.Refused r ≡ count o size
   unfolding count
-  count-given-back r d = rw (was-refused o.write o.field size e r d)
+  count_refused r d = sym (ap (λ y. judged y (UW.Count (count_of o)) UW.Refused) d)
 
-  pub counts : (w n : ℕ) → x ≡ C.Width w → n ≡ count_of o → N.Count n ≡ count o size
+  pub count_done : (n : ℕ) → Accepted o size → n ≡ count_of o → UW.Count n ≡ count o size
   unfolding count
-  counts w n d en = rw (was-done o.write o.field size e w d, en)
+  count_done n d en = ap UW.Count en ∙ sym (ap (λ y. judged y (UW.Count (count_of o)) UW.Refused) d)
 
--- ---- the next access
+module _ (s : List ℕ) (o : FieldOp) (k h : ℕ) where
+  abbrev made : Stepped
+  made = cond (ltb k (count_of o)) (held (act (plan_of o) (access_at o k) (progress s h))) (stepped N.Over s)
 
-module _ (s : List ℕ) (o : FieldOp) (k h : ℕ) {x : Checked} (e : x ≡ handed o.write o.field (length s)) where
-  pub next-given-back : (r : Refusal) → x ≡ C.Refused r → stepped (S.Refused r) s ≡ next_access s o k h
+  pub next_refused : (r : Refusal) → checked o (length s) ≡ O.Refused r → stepped (N.Refused r) s ≡ next_access s o k h
   unfolding next_access
-  next-given-back r d = rw (was-refused o.write o.field (length s) e r d)
+  next_refused r d = sym (ap (λ y. judged y made (λ q. stepped (N.Refused q) s)) d)
 
-  module _ (w : ℕ) (d : x ≡ C.Width w) {n : ℕ} (en : n ≡ count_of o) where
-    pub next-over : n ≤ k → stepped S.Over s ≡ next_access s o k h
-    unfolding next_access
-    next-over l = rw (was-done o.write o.field (length s) e w d, le-ltb k (count_of o) (omega arith))
+  pub next_over : Accepted o (length s) → count_of o ≤ k → stepped N.Over s ≡ next_access s o k h
+  unfolding next_access
+  next_over d l =
+      sym (ap (λ y. judged y made (λ q. stepped (N.Refused q) s)) d
+      ∙ ap (λ t. cond t (held (act (plan_of o) (access_at o k) (progress s h))) (stepped N.Over s)) (le-ltb k (count_of o) l))
 
-    pub next-made : k < n → (t : List ℕ) (g : ℕ) → progress t g ≡ act (plan_of o) (access_at o k) (progress s h) → stepped (S.Held g) t ≡ next_access s o k h
-    unfolding next_access
-    next-made l t g m = rw (was-done o.write o.field (length s) e w d, lt-ltb k (count_of o) (omega arith)) (ap held m)
+  pub next_done : (t : List ℕ) (g : ℕ) → Accepted o (length s) → k < count_of o → progress t g ≡ act (plan_of o) (access_at o k) (progress s h) → stepped (N.Held g) t ≡ next_access s o k h
+  unfolding next_access
+  next_done t g d l a =
+      ap held a
+      ∙ sym (ap (λ y. judged y made (λ q. stepped (N.Refused q) s)) d
+      ∙ ap (λ t. cond t (held (act (plan_of o) (access_at o k) (progress s h))) (stepped N.Over s)) (lt-ltb k (count_of o) l))
 
--- ---- whole calls
+module _ (s : List ℕ) (f : FieldUnit) where
+  pub read_refused : (r : Refusal) → checked (reading f) (length s) ≡ O.Refused r → UR.Refused r ≡ read_field s f
+  unfolding read_field
+  read_refused r d = sym (ap (λ y. judged y (UR.Value (whole (plan_of (reading f)) s).held (count_of (reading f))) UR.Refused) d)
 
-module _ (s : List ℕ) (f : FieldUnit) {x : Checked} (e : x ≡ handed false f (length s)) where
-  pub read-given-back : (r : Refusal) (y : Reported) → x ≡ C.Refused r → y ≡ reported (refusal r) 0 → y ≡ read_field integer_bits f s
-  read-given-back r y d ey = ey ∙ sym (read_refused integer_bits f s r (was-refused false f (length s) e r d))
+  pub read_done : (v n : ℕ) → Accepted (reading f) (length s) → v ≡ (whole (plan_of (reading f)) s).held → n ≡ count_of (reading f) → UR.Value v n ≡ read_field s f
+  unfolding read_field
+  read_done v n d ev en =
+      ap (λ y. UR.Value y n) ev ∙ ap (UR.Value (whole (plan_of (reading f)) s).held) en
+      ∙ sym (ap (λ y. judged y (UR.Value (whole (plan_of (reading f)) s).held (count_of (reading f))) UR.Refused) d)
 
-  pub reads : (w v fi la : ℕ) → x ≡ C.Width w → v ≡ (whole (plan_of (reading f)) s).held → fi ≡ first (plan_of (reading f)) → la ≡ last (plan_of (reading f))
-      → reported (said (A.Integer v)) (la - fi + 1) ≡ read_field integer_bits f s
-  unfolding said
-  reads w v fi la d ev ef el =
-      let ok = was-done false f (length s) e w d in
-      rw (read_short f s ok, ev, unit-held f s ok, read_count (reading f) (length s) ok ef el refl)
+module _ (s : List ℕ) (f : FieldUnit) (v : ℕ) where
+  abbrev written : Wrote
+  written = wrote (UW.Count (count_of (writing f v))) (whole (plan_of (writing f v)) s).region
 
-module _ (s : List ℕ) (f : FieldUnit) (v : ℕ) {x : Checked} (e : x ≡ handed true f (length s)) where
-  pub write-given-back : (r : Refusal) (y : Reported) → x ≡ C.Refused r → y ≡ reported (refusal r) 0 → stored y s ≡ write_field f v s
-  write-given-back r y d ey = rw (ey, write-refused f v s r (was-refused true f (length s) e r d))
+  pub write_refused : (r : Refusal) → checked (writing f v) (length s) ≡ O.Refused r → wrote (UW.Refused r) s ≡ write_field s f v
+  unfolding write_field
+  write_refused r d = sym (ap (λ y. judged y written (λ q. wrote (UW.Refused q) s)) d)
 
-  pub writes : (w n : ℕ) (t : List ℕ) → x ≡ C.Width w → n ≡ count_of (writing f v) → t ≡ (whole (plan_of (writing f v)) s).region
-      → stored (reported (said A.Done) n) t ≡ write_field f v s
-  unfolding said
-  writes w n t d en et = rw (write_done f v s (was-done true f (length s) e w d), en, et)
+  pub write_done : (n : ℕ) (t : List ℕ) → Accepted (writing f v) (length s) → n ≡ count_of (writing f v) → t ≡ (whole (plan_of (writing f v)) s).region → wrote (UW.Count n) t ≡ write_field s f v
+  unfolding write_field
+  write_done n t d en et =
+      ap (λ y. wrote (UW.Count y) t) en ∙ ap (wrote (UW.Count (count_of (writing f v)))) et
+      ∙ sym (ap (λ y. judged y written (λ q. wrote (UW.Refused q) s)) d)

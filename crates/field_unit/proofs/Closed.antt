@@ -81,28 +81,28 @@ in_behind o n x w k h l ow xo q = omega arith
 
 module _ (f : ℕ → ℕ) (r : FieldUpdateRule) (g : ℕ → ℕ) (a o n : ℕ) (ao : a ≤ o) where
   -- from a up to y the field's bits are g's, and the others go by the rule
-  abbrev grownBit : ℕ → ℕ → ℕ
-  grownBit y k = put (put f a (y - a) (others r (from f a))) o (min (o + n) y - o) g k
+  abbrev grown_bit : ℕ → ℕ → ℕ
+  grown_bit y k = put (put f a (y - a) (others r (from f a))) o (min (o + n) y - o) g k
 
   around_bit : (y k : ℕ) → a ≤ k → k < y → put f a (y - a) (others r (from f a)) k ≡ others r f k
   around_bit y k h l =
       let e : a + (k - a) ≡ k = omega arith in
       put_in f a (y - a) (others r (from f a)) k h (omega arith) ∙ others_at r (from f a) f (k - a) k (ap f e)
 
-  grown_in : (y k : ℕ) → o ≤ k → k < o + n → k < y → grownBit y k ≡ g (k - o)
+  grown_in : (y k : ℕ) → o ≤ k → k < o + n → k < y → grown_bit y k ≡ g (k - o)
   grown_in y k h l q = put_in (put f a (y - a) (others r (from f a))) o (min (o + n) y - o) g k h (omega arith)
 
-  grown_before : (y k : ℕ) → a ≤ k → k < y → k < o → grownBit y k ≡ others r f k
+  grown_before : (y k : ℕ) → a ≤ k → k < y → k < o → grown_bit y k ≡ others r f k
   grown_before y k h l q = put_below (put f a (y - a) (others r (from f a))) o (min (o + n) y - o) g k q ∙ around_bit y k h l
 
-  grown_behind : (y k : ℕ) → a ≤ k → k < y → o + n ≤ k → grownBit y k ≡ others r f k
+  grown_behind : (y k : ℕ) → a ≤ k → k < y → o + n ≤ k → grown_bit y k ≡ others r f k
   grown_behind y k h l q = put_above (put f a (y - a) (others r (from f a))) o (min (o + n) y - o) g k (omega arith) ∙ around_bit y k h l
 
-  grown_below : (y k : ℕ) → k < a → grownBit y k ≡ f k
+  grown_below : (y k : ℕ) → k < a → grown_bit y k ≡ f k
   grown_below y k h =
       put_below (put f a (y - a) (others r (from f a))) o (min (o + n) y - o) g k (omega arith) ∙ put_below f a (y - a) (others r (from f a)) k h
 
-  grown_above : (y k : ℕ) → a ≤ y → y ≤ k → grownBit y k ≡ f k
+  grown_above : (y k : ℕ) → a ≤ y → y ≤ k → grown_bit y k ≡ f k
   grown_above y k h l =
       put_cases (put f a (y - a) (others r (from f a))) o (min (o + n) y - o) g k (λ (x : ℕ). x ≡ f k)
       (λ _. rest) (λ p q. let no : ⊥ = omega arith in absurd no) (λ _. rest)
@@ -111,36 +111,36 @@ module _ (f : ℕ → ℕ) (r : FieldUpdateRule) (g : ℕ → ℕ) (a o n : ℕ)
       rest = put_above f a (y - a) (others r (from f a)) k (omega arith)
 
   -- a bit written before stays when the end moves on
-  grown_stays : (x y k : ℕ) → x ≤ y → k < x → grownBit x k ≡ grownBit y k
+  grown_stays : (x y k : ℕ) → x ≤ y → k < x → grown_bit x k ≡ grown_bit y k
   grown_stays x y k h l =
-      lt_cases k a (grownBit x k ≡ grownBit y k) (λ q. grown_below x k q ∙ sym (grown_below y k q))
-      (λ q. lt_cases k o (grownBit x k ≡ grownBit y k)
+      lt_cases k a (grown_bit x k ≡ grown_bit y k) (λ q. grown_below x k q ∙ sym (grown_below y k q))
+      (λ q. lt_cases k o (grown_bit x k ≡ grown_bit y k)
       (λ p. grown_before x k q l p ∙ sym (grown_before y k q (omega arith) p))
-      (λ p. lt_cases k (o + n) (grownBit x k ≡ grownBit y k)
+      (λ p. lt_cases k (o + n) (grown_bit x k ≡ grown_bit y k)
       (λ t. grown_in x k p t l ∙ sym (grown_in y k p t (omega arith)))
       (λ t. grown_behind x k q l t ∙ sym (grown_behind y k q (omega arith) t))))
 
   module _ (x w : ℕ) (ax : a ≤ x) (ow : o < x + w) (xo : x < o + n) where
     -- the unit at x of a region written up to x
-    abbrev unitBit : ℕ → ℕ
-    unitBit = put (others r (from (grownBit x) x)) (max o x - x) (min (o + n) (x + w) - max o x) (from g (max o x - o))
+    abbrev unit_bit : ℕ → ℕ
+    unit_bit = put (others r (from (grown_bit x) x)) (max o x - x) (min (o + n) (x + w) - max o x) (from g (max o x - o))
 
-    kept : (k : ℕ) → x ≤ k → others r (from (grownBit x) x) (k - x) ≡ others r f k
+    kept : (k : ℕ) → x ≤ k → others r (from (grown_bit x) x) (k - x) ≡ others r f k
     kept k h =
         let e : x + (k - x) ≡ k = omega arith in
-        others_at r (from (grownBit x) x) f (k - x) k (ap (grownBit x) e ∙ grown_above x k ax h)
+        others_at r (from (grown_bit x) x) f (k - x) k (ap (grown_bit x) e ∙ grown_above x k ax h)
 
-    in_unit : (k : ℕ) → x ≤ k → k < x + w → unitBit (k - x) ≡ grownBit (x + w) k
+    in_unit : (k : ℕ) → x ≤ k → k < x + w → unit_bit (k - x) ≡ grown_bit (x + w) k
     in_unit k h l =
-        put_cases (others r (from (grownBit x) x)) (max o x - x) (min (o + n) (x + w) - max o x) (from g (max o x - o)) (k - x)
-        (λ (y : ℕ). y ≡ grownBit (x + w) k)
+        put_cases (others r (from (grown_bit x) x)) (max o x - x) (min (o + n) (x + w) - max o x) (from g (max o x - o)) (k - x)
+        (λ (y : ℕ). y ≡ grown_bit (x + w) k)
         (λ q. kept k h ∙ sym (grown_before (x + w) k (le_trans ax h) l (in_before o x k h q)))
         (λ q t. ap g (in_place o x k h q) ∙ sym (grown_in (x + w) k (in_from o x k h q) (in_to o n x w k h ow xo t) l))
         (λ q. kept k h ∙ sym (grown_behind (x + w) k (le_trans ax h) l (in_behind o n x w k h l ow xo q)))
 
-    grown_unit : (k : ℕ) → put (grownBit x) x w unitBit k ≡ grownBit (x + w) k
+    grown_unit : (k : ℕ) → put (grown_bit x) x w unit_bit k ≡ grown_bit (x + w) k
     grown_unit k =
-        put_cases (grownBit x) x w unitBit k (λ (y : ℕ). y ≡ grownBit (x + w) k)
+        put_cases (grown_bit x) x w unit_bit k (λ (y : ℕ). y ≡ grown_bit (x + w) k)
         (λ q. grown_stays x (x + w) k (omega arith) q)
         (λ q t. in_unit k q t)
         (λ q. grown_above x k ax (omega arith) ∙ sym (grown_above (x + w) k (omega arith) q))
@@ -149,8 +149,8 @@ module _ (f : ℕ → ℕ) (r : FieldUpdateRule) (g : ℕ → ℕ) (a o n : ℕ)
 
 module _ (p : Plan) (wr : p.write ≡ true) (bb : (k : ℕ) → p.bits k < 2) where
   -- the unit's bits after it, in a region of these bits
-  abbrev unitAfter : (ℕ → ℕ) → ℕ → ℕ → ℕ
-  unitAfter f u = put (others p.rule (from f (base p u))) (lo p u - base p u) (hi p u - lo p u) (from p.bits (lo p u - p.offset))
+  abbrev unit_after : (ℕ → ℕ) → ℕ → ℕ → ℕ
+  unit_after f u = put (others p.rule (from f (base p u))) (lo p u - base p u) (hi p u - lo p u) (from p.bits (lo p u - p.offset))
 
   -- the unit that is stored holds these bits, where what is held has the region's, or where the rule does not look at it
   stored_bit : (u h i : ℕ) → i < p.width
@@ -162,10 +162,10 @@ module _ (p : Plan) (wr : p.write ≡ true) (bb : (k : ℕ) → p.bits k < 2) wh
       (from p.bits (lo p u - p.offset)) (λ k. bb (lo p u - p.offset + k))) 0 p.width i l
       ∙ ap f (zero-add i)
 
-  store_region : (s : List ℕ) (u h : ℕ) → ((i : ℕ) → i < p.width → put (others p.rule (bit_of h)) (lo p u - base p u) (hi p u - lo p u) (from p.bits (lo p u - p.offset)) i ≡ unitAfter (bit_at s) u i)
-      → (act p (Store u) (progress s h)).region ≡ with_bits s (base p u) p.width (unitAfter (bit_at s) u)
+  store_region : (s : List ℕ) (u h : ℕ) → ((i : ℕ) → i < p.width → put (others p.rule (bit_of h)) (lo p u - base p u) (hi p u - lo p u) (from p.bits (lo p u - p.offset)) i ≡ unit_after (bit_at s) u i)
+      → (act p (Store u) (progress s h)).region ≡ with_bits s (base p u) p.width (unit_after (bit_at s) u)
   unfolding act
-  store_region s u h e = with_bits_cong s (base p u) p.width (bit_of (merged p u h)) (unitAfter (bit_at s) u) (λ i l. stored_bit u h i l ∙ e i l)
+  store_region s u h e = with_bits_cong s (base p u) p.width (bit_of (merged p u h)) (unit_after (bit_at s) u) (λ i l. stored_bit u h i l ∙ e i l)
 
   -- where the field covers the unit, what was held says nothing
   covers_all : (o n x w i : ℕ) → o ≤ x → x + w ≤ o + n → i < w → (max o x - x ≤ i) × (i < max o x - x + (min (o + n) (x + w) - max o x))
@@ -193,7 +193,7 @@ module _ (p : Plan) (wr : p.write ≡ true) (bb : (k : ℕ) → p.bits k < 2) wh
       false≢true q = let z : ◌≡◌ {A = ℕ} 0 1 = ap (λ b. cond b 1 0) q in omega arith
 
   unit_covered : (s : List ℕ) (u h : ℕ) → covered p u ≡ true
-      → (acts p (Store u ∷ []) (progress s h)).region ≡ with_bits s (base p u) p.width (unitAfter (bit_at s) u)
+      → (acts p (Store u ∷ []) (progress s h)).region ≡ with_bits s (base p u) p.width (unit_after (bit_at s) u)
   unfolding acts
   unit_covered s u h e =
       let t = both_true (leb p.offset (base p u)) (leb (base p u + p.width) (p.offset + p.size)) e in
@@ -210,11 +210,11 @@ module _ (p : Plan) (wr : p.write ≡ true) (bb : (k : ℕ) → p.bits k < 2) wh
   load_held s u h = ap (λ b. progress s (cond b (get_bits s (base p u) p.width) (gathered p u h (get_bits s (base p u) p.width)))) wr
 
   swapped : (s : List ℕ) (u h i : ℕ) → others p.rule (bit_of h) i ≡ others p.rule (from (bit_at s) (base p u)) i
-      → put (others p.rule (bit_of h)) (lo p u - base p u) (hi p u - lo p u) (from p.bits (lo p u - p.offset)) i ≡ unitAfter (bit_at s) u i
+      → put (others p.rule (bit_of h)) (lo p u - base p u) (hi p u - lo p u) (from p.bits (lo p u - p.offset)) i ≡ unit_after (bit_at s) u i
   swapped s u h i e = put_cong (others p.rule (bit_of h)) (others p.rule (from (bit_at s) (base p u))) (lo p u - base p u) (hi p u - lo p u) (from p.bits (lo p u - p.offset)) i e
 
   unit_part : (s : List ℕ) (u h : ℕ) (r : FieldUpdateRule) → p.rule ≡ r
-      → (acts p (part_accesses r u) (progress s h)).region ≡ with_bits s (base p u) p.width (unitAfter (bit_at s) u)
+      → (acts p (part_accesses r u) (progress s h)).region ≡ with_bits s (base p u) p.width (unit_after (bit_at s) u)
   unfolding acts
   unit_part s u h U.Preserve e =
       ap (λ x. (act p (Store u) x).region) (load_held s u h)
@@ -225,12 +225,12 @@ module _ (p : Plan) (wr : p.write ≡ true) (bb : (k : ℕ) → p.bits k < 2) wh
   unit_part s u h U.WriteAsZeros e = store_region s u h (λ i l. swapped s u h i (others_zeros p.rule (bit_of h) (from (bit_at s) (base p u)) i i e))
 
   -- the accesses of a unit write it
-  unit_written : (s : List ℕ) (u h : ℕ)
-      → (acts p (unit_accesses p u) (progress s h)).region ≡ with_bits s (base p u) p.width (unitAfter (bit_at s) u)
+  pub unit_written : (s : List ℕ) (u h : ℕ)
+      → (acts p (unit_accesses p u) (progress s h)).region ≡ with_bits s (base p u) p.width (unit_after (bit_at s) u)
   unit_written s u h = go (covered p u) refl p.rule refl
     where
       go : (b : Bool) → covered p u ≡ b → (r : FieldUpdateRule) → p.rule ≡ r
-          → (acts p (unit_accesses p u) (progress s h)).region ≡ with_bits s (base p u) p.width (unitAfter (bit_at s) u)
+          → (acts p (unit_accesses p u) (progress s h)).region ≡ with_bits s (base p u) p.width (unit_after (bit_at s) u)
       go true e r q = ap (λ l. (acts p l (progress s h)).region) (list_covered u e) ∙ unit_covered s u h e
       go false e r q = ap (λ l. (acts p l (progress s h)).region) (list_part u r e q) ∙ unit_part s u h r q
 
@@ -250,7 +250,7 @@ module _ (p : Plan) (wr : p.write ≡ true) (bb : (k : ℕ) → p.bits k < 2) wh
   start_below = div-mul-le_self p.offset p.width
 
   abbrev bits_of : List ℕ → ℕ → ℕ → ℕ
-  bits_of s = grownBit (bit_at s) p.rule p.bits start p.offset p.size start_below
+  bits_of s = grown_bit (bit_at s) p.rule p.bits start p.offset p.size start_below
 
   filled_lt : (s : List ℕ) (k : ℕ) → others p.rule (from (bit_at s) start) k < 2
   filled_lt s k = others_lt p.rule (from (bit_at s) start) (λ i. bit_at_lt s (start + i)) k
@@ -258,14 +258,14 @@ module _ (p : Plan) (wr : p.write ≡ true) (bb : (k : ℕ) → p.bits k < 2) wh
   grown_length : (s : List ℕ) (y : ℕ) → length (grown s y) ≡ length s
   grown_length s y = with_bits_length (filled s y) p.offset (min (p.offset + p.size) y - p.offset) p.bits ∙ with_bits_length s start (y - start) (others p.rule (from (bit_at s) start))
 
-  grown_bit : (s : List ℕ) (y k : ℕ) → k < 8 * length s → bit_at (grown s y) k ≡ bits_of s y k
-  grown_bit s y k h =
+  grown_bit_lem : (s : List ℕ) (y k : ℕ) → k < 8 * length s → bit_at (grown s y) k ≡ bits_of s y k
+  grown_bit_lem s y k h =
       with_bits_bit (filled s y) p.offset (min (p.offset + p.size) y - p.offset) p.bits bb k
       (omega (arith, with_bits_length s start (y - start) (others p.rule (from (bit_at s) start))))
       ∙ put_cong (bit_at (filled s y)) (put (bit_at s) start (y - start) (others p.rule (from (bit_at s) start))) p.offset (min (p.offset + p.size) y - p.offset) p.bits k
       (with_bits_bit s start (y - start) (others p.rule (from (bit_at s) start)) (filled_lt s) k h)
 
-  unit_after_lt : (f : ℕ → ℕ) → ((k : ℕ) → f k < 2) → (u k : ℕ) → unitAfter f u k < 2
+  unit_after_lt : (f : ℕ → ℕ) → ((k : ℕ) → f k < 2) → (u k : ℕ) → unit_after f u k < 2
   unit_after_lt f b u k =
       put_lt (others p.rule (from f (base p u))) (others_lt p.rule (from f (base p u)) (λ i. b (base p u + i))) (lo p u - base p u) (hi p u - lo p u)
       (from p.bits (lo p u - p.offset)) (λ i. bb (lo p u - p.offset + i)) k
@@ -276,33 +276,33 @@ module _ (p : Plan) (wr : p.write ≡ true) (bb : (k : ℕ) → p.bits k < 2) wh
     before = grown s (base p u)
 
     next_bit : (k : ℕ) → k < 8 * length s
-        → put (bit_at before) (base p u) p.width (unitAfter (bit_at before) u) k ≡ bits_of s (base p u + p.width) k
+        → put (bit_at before) (base p u) p.width (unit_after (bit_at before) u) k ≡ bits_of s (base p u + p.width) k
     next_bit k h =
-        put_cases (bit_at before) (base p u) p.width (unitAfter (bit_at before) u) k (λ (x : ℕ). x ≡ put (bits_of s (base p u)) (base p u) p.width (unitAfter (bits_of s (base p u)) u) k)
-        (λ q. grown_bit s (base p u) k h ∙ sym (put_below (bits_of s (base p u)) (base p u) p.width (unitAfter (bits_of s (base p u)) u) k q))
+        put_cases (bit_at before) (base p u) p.width (unit_after (bit_at before) u) k (λ (x : ℕ). x ≡ put (bits_of s (base p u)) (base p u) p.width (unit_after (bits_of s (base p u)) u) k)
+        (λ q. grown_bit_lem s (base p u) k h ∙ sym (put_below (bits_of s (base p u)) (base p u) p.width (unit_after (bits_of s (base p u)) u) k q))
         (λ q t.
         let e : base p u + (k - base p u) ≡ k = omega arith in
         put_cong (others p.rule (from (bit_at before) (base p u))) (others p.rule (from (bits_of s (base p u)) (base p u))) (lo p u - base p u) (hi p u - lo p u) (from p.bits (lo p u - p.offset)) (k - base p u)
         (others_at p.rule (from (bit_at before) (base p u)) (from (bits_of s (base p u)) (base p u)) (k - base p u) (k - base p u)
-        (ap (bit_at before) e ∙ grown_bit s (base p u) k h ∙ ap (bits_of s (base p u)) (sym e)))
-        ∙ sym (put_in (bits_of s (base p u)) (base p u) p.width (unitAfter (bits_of s (base p u)) u) k q t))
-        (λ q. grown_bit s (base p u) k h ∙ sym (put_above (bits_of s (base p u)) (base p u) p.width (unitAfter (bits_of s (base p u)) u) k q))
+        (ap (bit_at before) e ∙ grown_bit_lem s (base p u) k h ∙ ap (bits_of s (base p u)) (sym e)))
+        ∙ sym (put_in (bits_of s (base p u)) (base p u) p.width (unit_after (bits_of s (base p u)) u) k q t))
+        (λ q. grown_bit_lem s (base p u) k h ∙ sym (put_above (bits_of s (base p u)) (base p u) p.width (unit_after (bits_of s (base p u)) u) k q))
         ∙ grown_unit (bit_at s) p.rule p.bits start p.offset p.size start_below (base p u) p.width su ow xo k
 
-    grown_next : with_bits before (base p u) p.width (unitAfter (bit_at before) u) ≡ grown s (base p u + p.width)
+    grown_next : with_bits before (base p u) p.width (unit_after (bit_at before) u) ≡ grown s (base p u + p.width)
     grown_next =
         let lb = grown_length s (base p u) in
         let la = grown_length s (base p u + p.width) in
-        let lw = with_bits_length before (base p u) p.width (unitAfter (bit_at before) u) in
-        bits_eq (with_bits before (base p u) p.width (unitAfter (bit_at before) u)) (grown s (base p u + p.width))
-        (with_bits_bytes before (base p u) p.width (unitAfter (bit_at before) u) (unit_after_lt (bit_at before) (bit_at_lt before) u))
+        let lw = with_bits_length before (base p u) p.width (unit_after (bit_at before) u) in
+        bits_eq (with_bits before (base p u) p.width (unit_after (bit_at before) u)) (grown s (base p u + p.width))
+        (with_bits_bytes before (base p u) p.width (unit_after (bit_at before) u) (unit_after_lt (bit_at before) (bit_at_lt before) u))
         (with_bits_bytes (filled s (base p u + p.width)) p.offset (min (p.offset + p.size) (base p u + p.width) - p.offset) p.bits bb)
         (lw ∙ lb ∙ sym la)
         (λ k h.
         let h2 : k < 8 * length s = omega arith in
-        with_bits_bit before (base p u) p.width (unitAfter (bit_at before) u) (unit_after_lt (bit_at before) (bit_at_lt before) u) k (omega arith)
+        with_bits_bit before (base p u) p.width (unit_after (bit_at before) u) (unit_after_lt (bit_at before) (bit_at_lt before) u) k (omega arith)
         ∙ next_bit k h2
-        ∙ sym (grown_bit s (base p u + p.width) k h2))
+        ∙ sym (grown_bit_lem s (base p u + p.width) k h2))
 
   -- m units from u on, in a region written up to unit u
   written_from : (s : List ℕ) (m u h : ℕ) → start ≤ base p u → p.offset < base p u + p.width
@@ -324,10 +324,10 @@ module _ (p : Plan) (wr : p.write ≡ true) (bb : (k : ℕ) → p.bits k < 2) wh
       ∙ ap (grown s) e
 
   -- A WRITE: the field's bits are replaced, and around them the touched units' bits go by the rule.
-  pub write-closed : (s : List ℕ) → ((j : ℕ) → get_or s j 0 < 256) → 0 < p.width → 1 ≤ p.size
+  pub write_closed : (s : List ℕ) → ((j : ℕ) → get_or s j 0 < 256) → 0 < p.width → 1 ≤ p.size
       → (whole p s).region
       ≡ with_bits (with_bits s (base p (first p)) (units p * p.width) (others p.rule (from (bit_at s) (base p (first p))))) p.offset p.size p.bits
-  write-closed s b pos some =
+  write_closed s b pos some =
       let r = last_end p.width p.offset p.size pos some in
       let y = start + units p * p.width in
       let z : start - start ≡ 0 = omega arith in
@@ -366,34 +366,34 @@ module _ (p : Plan) (wr : p.write ≡ true) (bb : (k : ℕ) → p.bits k < 2) (s
   by_rule : (g : ℕ → ℕ) → ((k : ℕ) → others p.rule from_start k ≡ g k)
       → (whole p s).region ≡ with_bits (with_bits s (base p (first p)) (units p * p.width) g) p.offset p.size p.bits
   by_rule g e =
-      write-closed p wr bb s b pos some
+      write_closed p wr bb s b pos some
       ∙ ap (λ l. with_bits l p.offset p.size p.bits) (with_bits_cong s (base p (first p)) (units p * p.width) (others p.rule from_start) g (λ i _. e i))
 
   -- Under Preserve a write is the field's bits replaced, and nothing else.
-  pub write-preserve : p.rule ≡ U.Preserve → (whole p s).region ≡ with_bits s p.offset p.size p.bits
-  write-preserve e =
+  pub write_preserve : p.rule ≡ U.Preserve → (whole p s).region ≡ with_bits s p.offset p.size p.bits
+  write_preserve e =
       by_rule from_start (λ k. (others_is p.rule from_start k).0 e)
       ∙ ap (λ l. with_bits l p.offset p.size p.bits) (with_bits_same s (base p (first p)) (units p * p.width) b)
 
   -- Under WriteAsOnes the rest of the touched units is all one.
-  pub write-ones : p.rule ≡ U.WriteAsOnes
+  pub write_ones : p.rule ≡ U.WriteAsOnes
       → (whole p s).region ≡ with_bits (with_bits s (base p (first p)) (units p * p.width) (λ _. 1)) p.offset p.size p.bits
-  write-ones e = by_rule (λ _. 1) (λ k. (others_is p.rule from_start k).1 e)
+  write_ones e = by_rule (λ _. 1) (λ k. (others_is p.rule from_start k).1 e)
 
   -- Under WriteAsZeros it is all zero.
-  pub write-zeros : p.rule ≡ U.WriteAsZeros
+  pub write_zeros : p.rule ≡ U.WriteAsZeros
       → (whole p s).region ≡ with_bits (with_bits s (base p (first p)) (units p * p.width) (λ _. 0)) p.offset p.size p.bits
-  write-zeros e = by_rule (λ _. 0) (λ k. (others_is p.rule from_start k).2 e)
+  write_zeros e = by_rule (λ _. 0) (λ k. (others_is p.rule from_start k).2 e)
 
   -- A byte outside the touched units stays.
-  pub write-outside : (j : ℕ) → j < length s → ((i : ℕ) → i < 8 → base p (first p) ≤ 8 * j + i → 8 * j + i < base p (first p) + units p * p.width → ⊥)
+  pub write_outside : (j : ℕ) → j < length s → ((i : ℕ) → i < 8 → base p (first p) ≤ 8 * j + i → 8 * j + i < base p (first p) + units p * p.width → ⊥)
       → get_or (whole p s).region j 0 ≡ get_or s j 0
-  write-outside j l out =
+  write_outside j l out =
       let r = last_end p.width p.offset p.size pos some in
       let g = others p.rule from_start in
       let t = with_bits s (base p (first p)) (units p * p.width) g in
       let tl = with_bits_length s (base p (first p)) (units p * p.width) g in
-      ap (λ l. get_or l j 0) (write-closed p wr bb s b pos some)
+      ap (λ l. get_or l j 0) (write_closed p wr bb s b pos some)
       ∙ with_bits_kept t p.offset p.size p.bits j (omega arith)
       (with_bits_bytes s (base p (first p)) (units p * p.width) g (others_lt p.rule from_start (λ i. bit_at_lt s (base p (first p) + i))) j)
       (λ i q h h2. out i q (omega (arith, r.0)) (omega (arith, r.2)))
@@ -415,8 +415,8 @@ module _ (p : Plan) (rd : p.write ≡ false) (s : List ℕ) where
   reads_held u h = ap (λ b. progress s (cond b (get_bits s (base p u) p.width) (gathered p u h (get_bits s (base p u) p.width)))) rd
 
   module _ (u : ℕ) (ow : p.offset < base p u + p.width) (xo : base p u < p.offset + p.size) where
-    abbrev unitBits : ℕ → ℕ
-    unitBits = from (bit_of (get_bits s (base p u) p.width)) (lo p u - base p u)
+    abbrev unit_bits : ℕ → ℕ
+    unit_bits = from (bit_of (get_bits s (base p u) p.width)) (lo p u - base p u)
 
     -- a bit of the unit is the region's, at the field's place
     unit_place : (o n x w i : ℕ) → o < x + w → x < o + n → max o x - o ≤ i → i < max o x - o + (min (o + n) (x + w) - max o x)
@@ -430,9 +430,9 @@ module _ (p : Plan) (rd : p.write ≡ false) (s : List ℕ) where
         place_at o x i h = omega arith
 
     gathered_bit : (i : ℕ) → i < hi p u - p.offset
-        → put (bit_of (so_far (base p u))) (lo p u - p.offset) (hi p u - lo p u) unitBits i ≡ bit_at s (p.offset + i)
+        → put (bit_of (so_far (base p u))) (lo p u - p.offset) (hi p u - lo p u) unit_bits i ≡ bit_at s (p.offset + i)
     gathered_bit i l =
-        put_cases (bit_of (so_far (base p u))) (lo p u - p.offset) (hi p u - lo p u) unitBits i (λ (x : ℕ). x ≡ bit_at s (p.offset + i))
+        put_cases (bit_of (so_far (base p u))) (lo p u - p.offset) (hi p u - lo p u) unit_bits i (λ (x : ℕ). x ≡ bit_at s (p.offset + i))
         (λ q. run_bit (bit_at s) (bit_at_lt s) p.offset (min (p.offset + p.size) (base p u) - p.offset) i (below p.offset p.size (base p u) i xo q))
         (λ q t.
         let r = unit_place p.offset p.size (base p u) p.width i ow xo q t in
@@ -448,7 +448,7 @@ module _ (p : Plan) (rd : p.write ≡ false) (s : List ℕ) where
     gathered_next : gathered p u (so_far (base p u)) (get_bits s (base p u) p.width) ≡ so_far (base p u + p.width)
     unfolding gathered
     gathered_next =
-        run_ext (put (bit_of (so_far (base p u))) (lo p u - p.offset) (hi p u - lo p u) unitBits) (bit_at s) 0 p.offset (hi p u - p.offset)
+        run_ext (put (bit_of (so_far (base p u))) (lo p u - p.offset) (hi p u - lo p u) unit_bits) (bit_at s) 0 p.offset (hi p u - p.offset)
         (λ i l. rw (zero-add i) (gathered_bit i l))
 
   read_none : (o : ℕ) → get_bits s o 0 ≡ 0
@@ -470,8 +470,8 @@ module _ (p : Plan) (rd : p.write ≡ false) (s : List ℕ) where
       ∙ ap (λ y. progress s (so_far y)) e
 
   -- A READ: the run of the field's bits; the region stays.
-  pub read-closed : 0 < p.width → 1 ≤ p.size → whole p s ≡ progress s (get_bits s p.offset p.size)
-  read-closed pos some =
+  pub read_closed : 0 < p.width → 1 ≤ p.size → whole p s ≡ progress s (get_bits s p.offset p.size)
+  read_closed pos some =
       let r = last_end p.width p.offset p.size pos some in
       let z : min (p.offset + p.size) (base p (first p)) - p.offset ≡ 0 = omega (arith, r.0) in
       let e : min (p.offset + p.size) (base p (first p) + units p * p.width) - p.offset ≡ p.size = omega (arith, r.2) in

@@ -3,13 +3,12 @@ pub mod Accepted
 pub mod Units
 pub mod Listing
 pub mod Running
+pub mod Left
 pub mod Remaining
 pub mod Bounds
 pub mod Closed
-pub mod UnitBits
-pub mod AccessAt
-pub mod Checking
+pub mod Parts
+pub mod Which
 pub mod Answers
-pub mod Contents
-pub mod Writing
+pub mod Turns
 pub mod Joined

@@ -17,7 +17,7 @@ use Rattle.field_unit.proofs.Units.{extra, unit_read, unit_partly, unit_stored, 
 
 -- ---- one unit on
 
-from_none : (p : Plan) (u : ℕ) → accesses_from p u 0 ≡ []
+pub from_none : (p : Plan) (u : ℕ) → accesses_from p u 0 ≡ []
 unfolding accesses_from
 from_none p u = refl
 
@@ -39,7 +39,7 @@ from_step p u l h =
 
 -- ---- how many
 
-from_count : (p : Plan) (u l : ℕ) → u ≤ l
+pub from_count : (p : Plan) (u l : ℕ) → u ≤ l
     → length (accesses_from p u (l + 1 - u)) ≡ 1 + extra (partly p u) + length (accesses_from p (u + 1) (l + 1 - (u + 1)))
 from_count p u l h =
     ap length (from_step p u l h)
@@ -176,10 +176,10 @@ module _ (p : Plan) (h : 0 < p.width) (g : 1 ≤ p.size) (w : p.write ≡ true) 
       → nth (accesses p) k ≡ nth (Store (first p) ∷ accesses_from p (first p + 1) (last p + 1 - (first p + 1))) (k - extra (partly p (first p)))
   body k l = after_lead p k (first_last p.width p.offset p.size h g) w l
 
-  pub nth-store : (k : ℕ) → extra (partly p (first p)) ≤ k → first p + (k - extra (partly p (first p))) ≤ last p
+  pub nth_store : (k : ℕ) → extra (partly p (first p)) ≤ k → first p + (k - extra (partly p (first p))) ≤ last p
       → (first p + (k - extra (partly p (first p))) ≡ last p → first p < last p → partly p (last p) ≡ false)
       → nth (accesses p) k ≡ Store (first p + (k - extra (partly p (first p))))
-  nth-store k l b s = body k l ∙ go (k - extra (partly p (first p))) b s
+  nth_store k l b s = body k l ∙ go (k - extra (partly p (first p))) b s
     where
       go : (i : ℕ) → first p + i ≤ last p → (first p + i ≡ last p → first p < last p → partly p (last p) ≡ false)
           → nth (Store (first p) ∷ accesses_from p (first p + 1) (last p + 1 - (first p + 1))) i ≡ Store (first p + i)
@@ -201,14 +201,14 @@ module _ (p : Plan) (h : 0 < p.width) (g : 1 ≤ p.size) (w : p.write ≡ true) 
       ∙ ap (λ (n : ℕ). nth (accesses_from p (first p + 1) n) (last p - (first p + 1) + i)) m
       ∙ tail_last (last p - (first p + 1)) (first p + 1) i (omega arith) (omega arith) s
 
-  pub nth-last-load : (k : ℕ) → extra (partly p (first p)) ≤ k → first p + (k - extra (partly p (first p))) ≡ last p → first p < last p → partly p (last p) ≡ true
+  pub nth_last_load : (k : ℕ) → extra (partly p (first p)) ≤ k → first p + (k - extra (partly p (first p))) ≡ last p → first p < last p → partly p (last p) ≡ true
       → nth (accesses p) k ≡ Load (last p)
-  nth-last-load k l q f s = last_two k 0 l (omega arith) f s
+  nth_last_load k l q f s = last_two k 0 l (omega arith) f s
 
   -- one past the last unit there is the last unit's store
-  pub nth-last-store : (k : ℕ) → extra (partly p (first p)) ≤ k → k < length (accesses p) → last p < first p + (k - extra (partly p (first p)))
+  pub nth_last_store : (k : ℕ) → extra (partly p (first p)) ≤ k → k < length (accesses p) → last p < first p + (k - extra (partly p (first p)))
       → nth (accesses p) k ≡ Store (last p)
-  nth-last-store k l c b = eq_cases (first p) (last p) _ (λ e. let no : ⊥ = omega (arith, count_one p e) in absurd no) (λ d. go (partly p (last p)) refl (omega (arith, first_last p.width p.offset p.size h g)))
+  nth_last_store k l c b = eq_cases (first p) (last p) _ (λ e. let no : ⊥ = omega (arith, count_one p e) in absurd no) (λ d. go (partly p (last p)) refl (omega (arith, first_last p.width p.offset p.size h g)))
     where
       go : (t : Bool) → partly p (last p) ≡ t → first p < last p → nth (accesses p) k ≡ Store (last p)
       go true e f = last_two k 1 l (omega (arith, count_many p h g f, ap extra e)) f e

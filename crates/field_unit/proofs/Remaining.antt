@@ -1,19 +1,15 @@
--- What is left of a list of accesses, as a loop over them has it: from unit u on, where u was loaded already or not. One on, at a unit that is
--- loaded first the load goes and the store stays; else the unit's store goes.
+-- What is left of a write's accesses, one on: at a unit that is loaded first the load goes and the store stays; else the unit's store goes.
 -- Assumes nothing.
 use mathlib.Core.Path.{◌≡◌, refl, sym, ap, ◌∙◌}
 use mathlib.Core.Bool.{Bool, true, false, cond, ◌&&◌, not, true≢false}
 use mathlib.Core.List.{List, [], ◌∷◌, ◌++◌}
 use Prim.Native.Nat.{ℕ, ◌+◌, ◌-◌, ◌≤◌, ◌<◌}
 use Rattle.field_unit.specs.Accesses.{Plan, first, last, partly, accesses_from, accesses}
+use Rattle.field_unit.proofs.Left.{left}
 use Rattle.field_unit.specs.declared.access.Access.{Access}
 use Rattle.field_unit.specs.declared.access.Access.TheVariants.{Load, Store}
 use Rattle.field_unit.proofs.Units.{unit_partly, unit_stored}
 use Rattle.field_unit.proofs.Listing.{from_over, from_step}
-
-unfoldable pub left : Plan → ℕ → Bool → List Access
-left p u false = accesses_from p u (last p + 1 - u)
-left p u true = Store u ∷ accesses_from p (u + 1) (last p + 1 - (u + 1))
 
 pub left_whole : (p : Plan) → left p (first p) false ≡ accesses p
 unfolding left

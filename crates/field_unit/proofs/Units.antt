@@ -4,17 +4,14 @@
 use mathlib.Core.Path.{◌≡◌, refl, sym, ap, ◌∙◌}
 use mathlib.Core.Bool.{Bool, true, false, cond, ◌&&◌, not, true≢false, false≢true}
 use mathlib.Core.List.{[], ◌∷◌}
-use Prim.Native.Nat.{ℕ, ◌+◌, ◌-◌, ◌*◌, ◌≤◌, ◌<◌}
+use Prim.Native.Nat.{ℕ, ◌+◌, ◌-◌, ◌≤◌, ◌<◌}
 use native.Mathlib.Nat.{suc-mul, lt-div-mul-add, div-mul-le_self, mul-le-mul_right}
 use native.Mathlib.Omega.{arith}
-use borrow.Author.Tests.{not-true, not-false, le-leb, lt-leb, ltb-true, ltb-false}
+use borrow.Author.Tests.{le-leb, lt-leb, ltb-true, ltb-false}
 use lib.Dec.{leb, ltb}
 use lib.ListN.{length}
 use Rattle.types.specs.declared.flags.FieldUpdateRule.{FieldUpdateRule}
 use Rattle.types.specs.declared.flags.FieldUpdateRule.TheVariants as U
-use Rattle.types.specs.contracts.flags.FieldUpdateRule.{the_type}
-use types.Run.{OneOf, miss}
-use denote.Enum.Declared.{tag_of}
 use Rattle.field_unit.specs.Accesses.{Plan, first, last, base, covered, part_accesses, unit_accesses, keeps, partly}
 use Rattle.field_unit.specs.declared.access.Access.TheVariants.{Load, Store}
 
@@ -24,7 +21,7 @@ pub partly_read : (p : Plan) (u : ℕ) → p.write ≡ false → partly p u ≡ 
 unfolding partly
 partly_read p u e = ap (λ (t : Bool). t && (keeps p.rule && not (covered p u))) e
 
-partly_write : (p : Plan) (u : ℕ) → partly p u ≡ true → p.write ≡ true
+pub partly_write : (p : Plan) (u : ℕ) → partly p u ≡ true → p.write ≡ true
 unfolding partly
 partly_write p u e = go p.write (keeps p.rule && not (covered p u)) e
   where
@@ -32,11 +29,11 @@ partly_write p u e = go p.write (keeps p.rule && not (covered p u)) e
     go true b h = refl
     go false b h = h
 
-partly_overwrite : (p : Plan) (u : ℕ) → keeps p.rule ≡ false → partly p u ≡ false
+pub partly_overwrite : (p : Plan) (u : ℕ) → keeps p.rule ≡ false → partly p u ≡ false
 unfolding partly
 partly_overwrite p u e = ap (λ (t : Bool). p.write && (t && not (covered p u))) e ∙ mathlib.Core.Bool.and_false p.write
 
-partly_covered : (p : Plan) (u : ℕ) → covered p u ≡ true → partly p u ≡ false
+pub partly_covered : (p : Plan) (u : ℕ) → covered p u ≡ true → partly p u ≡ false
 unfolding partly
 partly_covered p u e = ap (λ (t : Bool). p.write && (keeps p.rule && not t)) e ∙ go p.write (keeps p.rule)
   where
@@ -45,7 +42,7 @@ partly_covered p u e = ap (λ (t : Bool). p.write && (keeps p.rule && not t)) e 
     go true false = refl
     go false b = refl
 
-partly_part : (p : Plan) (u : ℕ) → p.write ≡ true → keeps p.rule ≡ true → covered p u ≡ false → partly p u ≡ true
+pub partly_part : (p : Plan) (u : ℕ) → p.write ≡ true → keeps p.rule ≡ true → covered p u ≡ false → partly p u ≡ true
 unfolding partly
 partly_part p u a b e = go p.write (keeps p.rule) (covered p u) a b e
   where
@@ -56,21 +53,21 @@ partly_part p u a b e = go p.write (keeps p.rule) (covered p u) a b e
     go false y z a b e = absurd (false≢true a)
 
 -- where it begins before the field, or ends after it, it is not covered
-covered_not_below : (p : Plan) (u : ℕ) → base p u < p.offset → covered p u ≡ false
+pub covered_not_below : (p : Plan) (u : ℕ) → base p u < p.offset → covered p u ≡ false
 covered_not_below p u h = ap (λ (t : Bool). t && leb (base p u + p.width) (p.offset + p.size)) (lt-leb p.offset (base p u) h)
 
-covered_not_above : (p : Plan) (u : ℕ) → p.offset + p.size < base p u + p.width → covered p u ≡ false
+pub covered_not_above : (p : Plan) (u : ℕ) → p.offset + p.size < base p u + p.width → covered p u ≡ false
 covered_not_above p u h =
     ap (λ (t : Bool). leb p.offset (base p u) && t) (lt-leb (base p u + p.width) (p.offset + p.size) h)
     ∙ mathlib.Core.Bool.and_false (leb p.offset (base p u))
 
-covered_between : (p : Plan) (u : ℕ) → p.offset ≤ base p u → base p u + p.width ≤ p.offset + p.size → covered p u ≡ true
+pub covered_between : (p : Plan) (u : ℕ) → p.offset ≤ base p u → base p u + p.width ≤ p.offset + p.size → covered p u ≡ true
 covered_between p u h g =
     ap (λ (t : Bool). t && leb (base p u + p.width) (p.offset + p.size)) (le-leb p.offset (base p u) h)
     ∙ le-leb (base p u + p.width) (p.offset + p.size) g
 
 -- a unit that does not begin before the field is loaded first where it ends after it
-partly_from : (p : Plan) (u : ℕ) → p.write ≡ true → keeps p.rule ≡ true → p.offset ≤ base p u
+pub partly_from : (p : Plan) (u : ℕ) → p.write ≡ true → keeps p.rule ≡ true → p.offset ≤ base p u
     → ltb (p.offset + p.size) (base p u + p.width) ≡ partly p u
 partly_from p u a b h = go (ltb (p.offset + p.size) (base p u + p.width)) refl
   where
@@ -78,35 +75,7 @@ partly_from p u a b h = go (ltb (p.offset + p.size) (base p u + p.width)) refl
     go true e = e ∙ sym (partly_part p u a b (covered_not_above p u (ltb-true (p.offset + p.size) (base p u + p.width) e)))
     go false e = e ∙ sym (partly_covered p u (covered_between p u h (ltb-false (p.offset + p.size) (base p u + p.width) e)))
 
--- ---- as the code finds it, at unit u of width x and with the rule r
-
--- all rules but the first write over the bits around
-not_kept : (r : FieldUpdateRule) → OneOf (1 ∷ 2 ∷ []) (tag_of the_type r) → keeps r ≡ false
-not_kept U.Preserve k = absurd (miss (1 ∷ 2 ∷ []) 0 tt k)
-not_kept U.WriteAsOnes k = refl
-not_kept U.WriteAsZeros k = refl
-
-module _ (p : Plan) (u : ℕ) where
-  pub partly-reads : not p.write ≡ true → false ≡ partly p u
-  partly-reads e = sym (partly_read p u (not-true p.write e))
-
-  module _ (n : not p.write ≡ false) (r : FieldUpdateRule) (er : r ≡ p.rule) where
-    pub partly-over : OneOf (1 ∷ 2 ∷ []) (tag_of the_type r) → false ≡ partly p u
-    partly-over k = sym (partly_overwrite p u (ap keeps (sym er) ∙ not_kept r k))
-
-    module _ (k : r ≡ U.Preserve) (x : ℕ) (ex : x ≡ p.width) where
-      kept : keeps p.rule ≡ true
-      kept = ap keeps (sym er ∙ k)
-
-      pub partly-below : u * x < p.offset → true ≡ partly p u
-      partly-below l = sym (partly_part p u (not-false p.write n) kept (covered_not_below p u (rw ex at l)))
-
-      pub partly-above : (e : ℕ) → p.offset ≤ u * x → e ≡ p.offset + p.size → ltb e (u * x + x) ≡ partly p u
-      partly-above e l ee = rw (ee, ex) (partly_from p u (not-false p.write n) kept (rw ex at l))
-
--- ---- a unit between the first and the last
-
-middle_covered : (p : Plan) (u : ℕ) → 0 < p.width → 1 ≤ p.size → first p < u → u < last p → covered p u ≡ true
+pub middle_covered : (p : Plan) (u : ℕ) → 0 < p.width → 1 ≤ p.size → first p < u → u < last p → covered p u ≡ true
 middle_covered p u h g a b =
     let l = lt-div-mul-add {a = p.offset} h in
     let m = mul-le-mul_right p.width a in

@@ -1,11 +1,9 @@
 -- Document 01, "Field units": what a whole read and a whole write answer, and the region after; what the next single access does.
 -- Assumes nothing.
-use Rattle.std.specs.Prelude.{ℕ, ◌≡◌, Bool, true, false, cond, List, [], ◌∷◌, ltb, length, get_or}
+use Rattle.std.specs.Prelude.{ℕ, ◌≡◌, true, false, cond, List, [], ◌∷◌, ltb, length, get_or}
 use Rattle.bits.specs.Bits.{bit_of}
 use Rattle.types.specs.Flags.{rule_bits, access_width}
 use Rattle.types.specs.Refusals.{first_of, judged}
-use Rattle.types.specs.Answers.{Answered, given, refused, ◌>>=◌, passing, nothing, bare, accepted, refusal, Reported, reported, counting}
-use Rattle.types.specs.Contents.{Content, content, as_given}
 use Rattle.types.specs.declared.refusal.Outcome.{Outcome}
 use Rattle.types.specs.declared.refusal.Outcome.TheVariants as O
 use Rattle.types.specs.declared.flags.FieldUpdateRule.{FieldUpdateRule}
@@ -16,8 +14,10 @@ use Rattle.field_unit.specs.Accesses.{Plan, Progress, progress, accesses, act, w
 use Rattle.field_unit.specs.declared.access.Access.{Access}
 use Rattle.field_unit.specs.declared.access.Access.TheVariants.{Load}
 use Rattle.field_unit.specs.declared.access.FieldOp.{FieldOp}
-use Rattle.field_unit.specs.declared.next.CountAnswer.{CountAnswer}
-use Rattle.field_unit.specs.declared.next.CountAnswer.TheVariants as C
+use Rattle.field_unit.specs.declared.whole.UnitRead.{UnitRead}
+use Rattle.field_unit.specs.declared.whole.UnitRead.TheVariants as UR
+use Rattle.field_unit.specs.declared.whole.UnitWritten.{UnitWritten}
+use Rattle.field_unit.specs.declared.whole.UnitWritten.TheVariants as UW
 use Rattle.field_unit.specs.declared.next.Accessed.{Accessed}
 use Rattle.field_unit.specs.declared.next.Accessed.TheVariants as N
 
@@ -26,19 +26,16 @@ abbrev pub rule_of : ℕ → FieldUpdateRule
 rule_of flags = get_or (U.Preserve ∷ U.WriteAsOnes ∷ []) (rule_bits flags) U.WriteAsZeros
 
 -- "A write .. cuts [its value] to the length": of its bits the field's first `length` are taken, and no other
-abbrev pub plan_with : Bool → FieldUnit → (ℕ → ℕ) → Plan
-plan_with write f bits =
-    record {
-      write = write;
-      rule = rule_of f.flags.0;
-      width = access_width f.flags.0;
-      offset = f.offset;
-      size = f.length;
-      bits = bits;
-    }
-
 abbrev pub plan_of : FieldOp → Plan
-plan_of o = plan_with o.write o.field (bit_of o.value)
+plan_of o =
+    record {
+      write = o.write;
+      rule = rule_of o.field.flags.0;
+      width = access_width o.field.flags.0;
+      offset = o.field.offset;
+      size = o.field.length;
+      bits = bit_of o.value;
+    }
 
 abbrev pub reading : FieldUnit → FieldOp
 reading f = record { write = false; field = f; value = 0 }
@@ -58,36 +55,28 @@ checked o size = first_of (field_checks o.write o.field size)
 abbrev pub Accepted : FieldOp → ℕ → Type 0
 Accepted o size = checked o size ≡ O.Done
 
--- for the task table, which asks how many before the first is made
-unfoldable pub count : FieldOp → ℕ → CountAnswer
-count o size = judged (checked o size) (C.Count (count_of o)) C.Refused
+unfoldable pub count : FieldOp → ℕ → UnitWritten
+count o size = judged (checked o size) (UW.Count (count_of o)) UW.Refused
 
--- ---- whole calls
+unfoldable pub read_field : List ℕ → FieldUnit → UnitRead
+read_field s f =
+    judged (checked (reading f) (length s))
+    (UR.Value (whole (plan_of (reading f)) s).held (count_of (reading f)))
+    UR.Refused
 
--- what reading the field f of the region s gives, or its own refusal
-unfoldable pub field_unit_content : ℕ → FieldUnit → List ℕ → Answered Content
-field_unit_content w f s = do
-  _ ← passing (field_checks false f (length s))
-  given (content w f.length (bit_of (whole (plan_of (reading f)) s).held))
-
-unfoldable pub read_field : ℕ → FieldUnit → List ℕ → Reported
-read_field w f s = counting (count_of (reading f)) (field_unit_content w f s >>= as_given)
-
--- what a write reports, and what the region holds after
-pub record Stored : Type 0 where
-  pub reports : Reported
+-- the answer, and what the region holds after
+pub record Wrote : Type 0 where
+  pub answer : UnitWritten
   pub region : List ℕ
 
-abbrev pub stored : Reported → List ℕ → Stored
-stored r s = record { reports = r; region = s }
+abbrev pub wrote : UnitWritten → List ℕ → Wrote
+wrote a s = record { answer = a; region = s }
 
--- the accesses of a plan, or the refusal; a refusal changes nothing
-unfoldable pub storing : Answered Plan → List ℕ → Stored
-storing (given p) s = stored (reported (accepted (bare nothing)) (length (accesses p))) (whole p s).region
-storing (refused r) s = stored (reported (refusal r) 0) s
-
-unfoldable pub write_field : FieldUnit → ℕ → List ℕ → Stored
-write_field f v s = storing (passing (field_checks true f (length s)) >>= λ _. given (plan_of (writing f v))) s
+unfoldable pub write_field : List ℕ → FieldUnit → ℕ → Wrote
+write_field s f v =
+    judged (checked (writing f v) (length s))
+    (wrote (UW.Count (count_of (writing f v))) (whole (plan_of (writing f v)) s).region)
+    (λ r. wrote (UW.Refused r) s)
 
 -- ---- the next single access
 

@@ -2,7 +2,6 @@
 -- Assumes nothing.
 use Rattle.std.specs.Prelude.{ℕ, ◌+◌, ◌-◌, ◌*◌, ◌/◌, Bool, true, false, ◌&&◌, ◌||◌, not, [], ◌∷◌, leb, ltb, eqb}
 use Rattle.types.specs.Flags.{access_bits, rule_bits, access_width}
-use Rattle.types.specs.Limits.{too_many, longest_unit}
 use Rattle.types.specs.Refusals.{Checks}
 use Rattle.types.specs.declared.refusal.Refusal.TheVariants as R
 use Rattle.types.specs.declared.value.RegionSpace.{RegionSpace}
@@ -55,14 +54,14 @@ outside w o n size = ltb (8 * size) (last_unit w o n * w + w)
 -- 21, 22: where the field lies
 abbrev pub place_checks : ℕ → ℕ → ℕ → ℕ → Checks
 place_checks w o n size =
-    (eqb n 0 || ltb longest_unit n, R.FieldUnitLength)
+    (eqb n 0 || ltb 64 n, R.FieldUnitLength)
     ∷ (outside w o n size, R.FieldUnitOutsideRegion)
     ∷ []
 
 -- the checks of a read or a write of a field unit, in a region of so many bytes
 unfoldable pub field_checks : Bool → FieldUnit → ℕ → Checks
 field_checks write f size =
-    (too_many size, R.TooManyBytes)
+    (ltb 65536 size, R.TooManyBytes)
     ∷ (bad_flags write f.flags.0, R.InvalidFieldFlags)
     ∷ (not (supported f.space), R.UnsupportedRegionSpace)
     ∷ (eqb (access_width f.flags.0) 64 && narrow f.space, R.QWordAccessInSpace)

@@ -2,7 +2,7 @@
 // whole call and alone. The width is looked up once for a call and handed down.
 ghost use Rattle.std.specs.Prelude.{true, ◌≡◌, ℕ, ◌+◌, ◌*◌, ◌/◌, ◌≤◌, ◌<◌, min, max, length};
 ghost use Rattle.bits.specs.Bits.{bit_of, run, put, get_bits, set_bits};
-ghost use Rattle.types.specs.Flags.{Width};
+ghost use Rattle.types.proofs.Widths.{Width};
 ghost use Rattle.field_unit.specs.Accesses.{progress, first, last, base, partly, unit_of, gathered, merged, others, act};
 ghost use Rattle.field_unit.specs.Calls.{plan_of, Accepted};
 
@@ -51,8 +51,8 @@ fn rule(op: FieldOp) -> FieldUpdateRule
     FieldUpdateRule::WriteAsZeros
 }
 
-// The unit that bit x stands in: x div width. A width is a power of two, so it is a shift.
-pub(crate) fn unit_of(x: u64, width: u64) -> u64
+// x div width. A width is a power of two, so it is a shift.
+pub(crate) fn units(x: u64, width: u64) -> u64
     requires { Width width }
     ensures { result ≡ x / width }
 {
@@ -64,7 +64,7 @@ pub(crate) fn first_unit(op: FieldOp, width: u64, size: usize) -> u64
     ensures { result ≡ first (plan_of op) }
 {
     let field = op.field;
-    unit_of(field.offset, width)
+    units(field.offset, width)
 }
 
 pub(crate) fn last_unit(op: FieldOp, width: u64, size: usize) -> u64
@@ -72,7 +72,7 @@ pub(crate) fn last_unit(op: FieldOp, width: u64, size: usize) -> u64
     ensures { result ≡ last (plan_of op) }
 {
     let field = op.field;
-    unit_of(field.offset + field.length - 1, width)
+    units(field.offset + field.length - 1, width)
 }
 
 // Is the unit loaded before it is stored? Only a write under Preserve does so, where the field does not cover the unit.
@@ -185,8 +185,7 @@ pub(crate) fn put(width: u64, u: u64, region: &mut [u8], x: u64)
 
 // One access of a write. Answers what is held after it: the unit that was loaded, for the store that follows.
 pub(crate) fn act(op: FieldOp, width: u64, a: Access, region: &mut [u8], held: u64) -> u64
-    requires { (op.write ≡ true) × (Accepted op (length region.old)) × (width ≡ (plan_of op).width)
-        × (first (plan_of op) ≤ unit_of a) × (unit_of a ≤ last (plan_of op)) }
+    requires { (op.write ≡ true) × (Accepted op (length region.old)) × (width ≡ (plan_of op).width) × (first (plan_of op) ≤ unit_of a) × (unit_of a ≤ last (plan_of op)) }
     ensures { progress region.new result ≡ act (plan_of op) a (progress region.old held) }
 {
     match a {

@@ -1,13 +1,13 @@
 // The checks of a field unit, in document 01's order: 27, 9, 28, 29, 21, 22.
 ghost use Rattle.std.specs.Prelude.{◌&&◌, ◌≡◌, ◌≤◌, eqb};
-ghost use Rattle.types.specs.Flags.{Width, access_width};
-ghost use Rattle.types.specs.Limits.{most_bytes};
+ghost use Rattle.types.proofs.Widths.{Width};
+ghost use Rattle.types.specs.Flags.{access_width};
 ghost use Rattle.types.specs.Refusals.{first_of, judged};
+ghost use Rattle.types.specs.declared.refusal.Refusal.{Refusal};
 ghost use Rattle.field_unit.specs.Checks.{supported, narrow, bad_flags, outside, place_checks, field_checks};
 
-use crate::access::unit_of;
+use crate::access::units;
 use types::flags::FieldFlags;
-use types::limit::{LONGEST_UNIT, MOST_BYTES};
 use types::refusal::{Outcome, Refusal};
 use types::value::{FieldUnit, RegionSpace};
 
@@ -58,7 +58,7 @@ fn is_too_wide(width: u64, space: RegionSpace) -> bool
 
 // 22. The sum of offset and length is not bounded, so it is formed only where it fits.
 fn is_outside(width: u64, offset: u64, length: u64, size: u64) -> bool
-    requires { (Width width) × (1 ≤ length) × (size ≤ most_bytes) }
+    requires { (Width width) × (1 ≤ length) × (size ≤ 65536) }
     ensures { result ≡ outside width offset length size }
 {
     let bits = 8 * size;
@@ -68,7 +68,7 @@ fn is_outside(width: u64, offset: u64, length: u64, size: u64) -> bool
     if bits - length < offset {
         return true;
     }
-    let last = unit_of(offset + length - 1, width);
+    let last = units(offset + length - 1, width);
     bits < last * width + width
 }
 
@@ -79,13 +79,23 @@ pub(crate) enum Checked {
     Refused(Refusal),
 }
 
+// Why a field was refused: what the other case of a let-else returns. Of a width nothing is said.
+pub(crate) fn refusal_of(c: Checked) -> Refusal
+    ensures { (q : Refusal) → c ≡ Checked.Refused q → result ≡ q }
+{
+    match c {
+        Checked::Width(_) => Refusal::TooManyBytes,
+        Checked::Refused(r) => r,
+    }
+}
+
 // Checks a read or a write of the field, in a region of size bytes.
 pub(crate) fn check_width(field: FieldUnit, write: bool, size: u64) -> Checked
     ensures { result ≡ judged (first_of (field_checks write field size)) (Checked.Width (access_width field.flags.0)) Checked.Refused }
 {
     let flags = field.flags;
     let space = field.space;
-    if (MOST_BYTES as u64) < size {
+    if 65536 < size {
         return Checked::Refused(Refusal::TooManyBytes);
     }
     if bad_flags(flags, write) {
@@ -118,13 +128,13 @@ pub fn check_field(field: FieldUnit, write: bool, size: u64) -> Outcome
 
 // 21, then 22.
 fn check_place(width: u64, offset: u64, length: u64, size: u64) -> Outcome
-    requires { (Width width) × (size ≤ most_bytes) }
+    requires { (Width width) × (size ≤ 65536) }
     ensures { result ≡ first_of (place_checks width offset length size) }
 {
     if length == 0 {
         return Outcome::Refused(Refusal::FieldUnitLength);
     }
-    if LONGEST_UNIT < length {
+    if 64 < length {
         return Outcome::Refused(Refusal::FieldUnitLength);
     }
     if is_outside(width, offset, length, size) {

@@ -1,18 +1,11 @@
 // The next single access of an operation, found by how many were made: only the first and the last unit can take two.
-ghost use Rattle.std.specs.Prelude.{cond, ◌≡◌, ◌<◌, length};
-ghost use Rattle.field_unit.specs.Accesses.{progress, act};
+ghost use Rattle.std.specs.Prelude.{cond, ◌≡◌, ◌<◌};
 ghost use Rattle.field_unit.specs.Calls.{plan_of, count_of, access_at, Accepted, count, next_access, stepped};
 
 use crate::access::{Access, FieldOp, first_unit, is_partly, last_unit, load, merge_unit, put};
-use crate::check::{Checked, check_width};
+use crate::check::{Checked, check_width, refusal_of};
+use crate::whole::UnitWritten;
 use types::refusal::Refusal;
-
-// How many loads and stores there are, or why there are none.
-#[derive(Drop)]
-pub enum CountAnswer {
-    Count(u64),
-    Refused(Refusal),
-}
 
 // What is held after an access; or that there is none left.
 #[derive(Drop)]
@@ -70,32 +63,16 @@ fn access_at(op: FieldOp, width: u64, k: u64, size: usize) -> Access
     Access::Store(u)
 }
 
-// Makes access k. Answers what is held after it.
-fn make_access(op: FieldOp, width: u64, k: u64, region: &mut [u8], held: u64) -> u64
-    requires { (Accepted op (length region.old)) × (width ≡ (plan_of op).width) × (k < count_of op) }
-    ensures { progress region.new result ≡ act (plan_of op) (access_at op k) (progress region.old held) }
-{
-    let a = access_at(op, width, k, region.len());
-    match a {
-        Access::Load(u) => load(op, width, u, region, held),
-        Access::Store(u) => {
-            let x = merge_unit(op, width, u, held, region.len());
-            put(width, u, region, x);
-            0
-        }
-    }
-}
-
 // How many loads and stores the operation makes on a region of size bytes.
-pub fn count_accesses(op: FieldOp, size: u64) -> CountAnswer
+pub fn count_accesses(op: FieldOp, size: u64) -> UnitWritten
     ensures { result ≡ count op size }
 {
     let field = op.field;
     let checked = check_width(field, op.write, size);
-    match checked {
-        Checked::Refused(r) => CountAnswer::Refused(r),
-        Checked::Width(width) => CountAnswer::Count(total(op, width, size as usize)),
-    }
+    let Checked::Width(width) = checked else {
+        return UnitWritten::Refused(refusal_of(checked));
+    };
+    UnitWritten::Count(total(op, width, size as usize))
 }
 
 // Makes access made of the operation, counted from 0, with what the loads before it hold.
@@ -104,13 +81,19 @@ pub fn next_access(op: FieldOp, made: u64, held: u64, region: &mut [u8]) -> Acce
 {
     let field = op.field;
     let checked = check_width(field, op.write, region.len() as u64);
-    match checked {
-        Checked::Refused(r) => Accessed::Refused(r),
-        Checked::Width(width) => {
-            if total(op, width, region.len()) <= made {
-                return Accessed::Over;
-            }
-            Accessed::Held(make_access(op, width, made, region, held))
+    let Checked::Width(width) = checked else {
+        return Accessed::Refused(refusal_of(checked));
+    };
+    if total(op, width, region.len()) <= made {
+        return Accessed::Over;
+    }
+    let a = access_at(op, width, made, region.len());
+    match a {
+        Access::Load(u) => Accessed::Held(load(op, width, u, region, held)),
+        Access::Store(u) => {
+            let x = merge_unit(op, width, u, held, region.len());
+            put(width, u, region, x);
+            Accessed::Held(0)
         }
     }
 }

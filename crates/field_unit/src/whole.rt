@@ -1,18 +1,29 @@
 // Whole calls: every unit of the field in ascending order.
 ghost use Rattle.std.specs.Prelude.{◌≡◌, length, true, false, ◌+◌, ◌/◌, ◌≤◌};
 ghost use Rattle.bits.specs.Bits.{get_bits};
-ghost use Rattle.bits.specs.Integers.{integer_bits};
-ghost use Rattle.types.specs.Flags.{Width};
-ghost use Rattle.types.specs.Answers.{refusal, reported, said_counted};
+ghost use Rattle.types.proofs.Widths.{Width};
 ghost use Rattle.field_unit.specs.Accesses.{whole};
-ghost use Rattle.field_unit.specs.Calls.{plan_of, Accepted, read_field, stored, write_field};
+ghost use Rattle.field_unit.specs.Calls.{plan_of, Accepted, read_field, write_field, wrote};
 
 use crate::access::{FieldOp, fetch, first_unit, last_unit};
-use crate::check::{Checked, check_width};
+use crate::check::{Checked, check_width, refusal_of};
 use crate::run::run;
-use types::answer::{Answer, Counted};
 use types::refusal::Refusal;
 use types::value::FieldUnit;
+
+// A read's value and how many loads it took.
+#[derive(Drop)]
+pub enum UnitRead {
+    Value { value: u64, count: u64 },
+    Refused(Refusal),
+}
+
+// How many loads and stores a write took.
+#[derive(Drop)]
+pub enum UnitWritten {
+    Count(u64),
+    Refused(Refusal),
+}
 
 // The field's bits, from its units: each is loaded once, ascending, and joined above those before it.
 fn join_units(width: u64, offset: u64, length: u64, first: u64, region: &[u8]) -> u64
@@ -40,56 +51,38 @@ fn read_units(op: FieldOp, width: u64, region: &[u8]) -> u64
     join_units(width, field.offset, field.length, first, region)
 }
 
-// Why a whole call was refused; nothing was loaded or stored.
-fn not_made(r: Refusal) -> Counted
-    ensures { said_counted result ≡ reported (refusal r) 0 }
-{
-    Counted {
-        answer: Answer::Refused(r),
-        count: 0,
-    }
-}
-
 // The field's value, and how many loads that took.
-pub fn read_field(region: &[u8], field: FieldUnit) -> Counted
-    ensures { said_counted result ≡ read_field integer_bits field region.now }
+pub fn read_field(region: &[u8], field: FieldUnit) -> UnitRead
+    ensures { result ≡ read_field region.now field }
 {
     let checked = check_width(field, false, region.len() as u64);
-    match checked {
-        Checked::Refused(r) => not_made(r),
-        Checked::Width(width) => {
-            let op = FieldOp {
-                write: false,
-                field,
-                value: 0,
-            };
-            let first = first_unit(op, width, region.len());
-            let last = last_unit(op, width, region.len());
-            Counted {
-                answer: Answer::Integer(read_units(op, width, region)),
-                count: last - first + 1,
-            }
-        }
+    let Checked::Width(width) = checked else {
+        return UnitRead::Refused(refusal_of(checked));
+    };
+    let op = FieldOp {
+        write: false,
+        field,
+        value: 0,
+    };
+    let count = last_unit(op, width, region.len()) - first_unit(op, width, region.len()) + 1;
+    UnitRead::Value {
+        value: read_units(op, width, region),
+        count,
     }
 }
 
 // Writes the value's lowest bits into the field. Answers how many loads and stores that took; there are at most 11.
-pub fn write_field(region: &mut [u8], field: FieldUnit, value: u64) -> Counted
-    ensures { stored (said_counted result) region.new ≡ write_field field value region.old }
+pub fn write_field(region: &mut [u8], field: FieldUnit, value: u64) -> UnitWritten
+    ensures { wrote result region.new ≡ write_field region.old field value }
 {
     let checked = check_width(field, true, region.len() as u64);
-    match checked {
-        Checked::Refused(r) => not_made(r),
-        Checked::Width(width) => {
-            let op = FieldOp {
-                write: true,
-                field,
-                value,
-            };
-            Counted {
-                answer: Answer::Done,
-                count: run(op, width, region),
-            }
-        }
-    }
+    let Checked::Width(width) = checked else {
+        return UnitWritten::Refused(refusal_of(checked));
+    };
+    let op = FieldOp {
+        write: true,
+        field,
+        value,
+    };
+    UnitWritten::Count(run(op, width, region))
 }

@@ -1,7 +1,6 @@
 // The incident, replayed: a twelve-bit fill count is written into a record whose other four bits are a valve timer's trim.
-use field_unit::whole::write_field;
+use field_unit::whole::{UnitWritten, write_field};
 use libc::STDOUT_FILENO;
-use types::answer::Answer;
 use types::flags::FieldFlags;
 use types::refusal::number;
 use types::value::{FieldUnit, RegionSpace};
@@ -27,15 +26,17 @@ fn main() {
         STDOUT_FILENO,
         b"write           0x123 into 12 bits at bit 0, word access, Preserve\n",
     );
-    let written = write_field(&mut region, fill_count, 0x123);
+    let answer = write_field(&mut region, fill_count, 0x123);
     show(b"record after    ", region[0], region[1]);
-    let answer = written.answer;
-    if let Answer::Refused(r) = answer {
-        io::write_all(STDOUT_FILENO, b"refused         ");
-        io::print_decimal(STDOUT_FILENO, number(r) as u64);
-    } else {
-        io::write_all(STDOUT_FILENO, b"accesses        ");
-        io::print_decimal(STDOUT_FILENO, written.count);
+    match answer {
+        UnitWritten::Count(n) => {
+            io::write_all(STDOUT_FILENO, b"accesses        ");
+            io::print_decimal(STDOUT_FILENO, n);
+        }
+        UnitWritten::Refused(r) => {
+            io::write_all(STDOUT_FILENO, b"refused         ");
+            io::print_decimal(STDOUT_FILENO, number(r) as u64);
+        }
     }
     io::write_all(STDOUT_FILENO, b"\n");
 }

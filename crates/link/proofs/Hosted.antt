@@ -16,8 +16,8 @@ use Rattle.field_unit.specs.declared.access.FieldOp.{FieldOp}
 use Rattle.field_unit.specs.Calls.{count_of}
 use Rattle.field_unit.proofs.Bounds.{count_most}
 use Rattle.task.specs.Tasks.{new_table, malformed, call_checks_by, call_checks, op_checks, start, start_checks, started, with_task, step, step_checks, step_region, advanced, accessed, is_last, answer_after, task_at}
-use Rattle.task.specs.Turns.{start_task, task_checks, moved_by, stayed, step_task, step_task_region}
-use Rattle.task.specs.declared.turn.Moved.{Moved}
+use Rattle.task.specs.One.{start_task, task_checks, moved_by, stayed, step_task, step_task_region}
+use Rattle.task.specs.declared.one.Moved.{Moved}
 use Rattle.task.specs.declared.table.Task.{Task}
 use Rattle.task.specs.declared.table.Table.{Table}
 use Rattle.task.specs.declared.table.Made.{Made}
@@ -28,10 +28,11 @@ use Rattle.task.specs.declared.table.Stepped.{Stepped}
 use Rattle.task.specs.declared.table.StepAnswer.TheVariants as ST
 use Rattle.types.proofs.Judging.{none_holds, none_gives}
 use Rattle.types.proofs.Tests.{not_false}
-use Rattle.task.proofs.Named.{call-small, start-unchecked, start-stayed, start-begun, step-unchecked, region-unchecked, step-stayed, step-moved, region-moved}
+use Rattle.task.proofs.Named.{call_small, start_unchecked, start_stayed, start_begun, step_unchecked, region_unchecked, step_stayed, step_moved, region_moved}
 use Rattle.task.proofs.Sound.{set_this}
-use Rattle.link.specs.Tables.{outcome_answer, task_of, host_task_at, table_of, numbers_of_task, changed, fresh_numbers, called, table_after, length_if_valid, new_call, start_took, start_count, start_answer, started_call, start_call, step_took, step_answer, stepped_call, step_call}
-use Rattle.link.specs.declared.answer.HostAnswer.{HostAnswer}
+use Rattle.link.specs.Answers.{outcome_answer}
+use Rattle.link.specs.Tables.{task_of, host_task_at, table_of, numbers_of_task, changed, fresh_numbers, called, table_after, length_said, new_call, start_took, start_count, start_answer, started_call, start_call, step_took, step_answer, stepped_call, step_call}
+use Rattle.link.specs.declared.answer.Answer.{Answer}
 use Rattle.link.specs.declared.tables.HostTask.{HostTask}
 use Rattle.link.specs.declared.tables.HostTable.{HostTable}
 
@@ -46,10 +47,10 @@ module _ (t : Table) (s : List ℕ) (i : ℕ) (o : FieldOp) where
   start_is = refl
 
 module _ (t : Table) (s : List ℕ) (i : ℕ) where
-  abbrev pub stepBy : Outcome → Stepped
-  stepBy c = judged c (advanced t i (accessed (task_at t i) s).held) (λ r. record { table = t; answer = ST.Refused r })
+  abbrev pub step_by : Outcome → Stepped
+  step_by c = judged c (advanced t i (accessed (task_at t i) s).held) (λ r. record { table = t; answer = ST.Refused r })
 
-  pub step_is : step t s i ≡ stepBy (first_of (step_checks t s i))
+  pub step_is : step t s i ≡ step_by (first_of (step_checks t s i))
   unfolding step
   step_is = refl
 
@@ -97,43 +98,43 @@ module _ (h : HostTable) (s : List ℕ) (i : ℕ) {m : Bool} (em : m ≡ malform
   checked : x ≡ first_of (call_checks (table_of h) (length s) i)
   checked = p ∙ ap (λ (b : Bool). first_of (call_checks_by b h.size (length s) i)) em
 
-  pub host-small : x ≡ O.Done → i < 4
-  host-small d = call-small (table_of h) (length s) i checked d
+  pub host_small : x ≡ O.Done → i < 4
+  host_small d = call_small (table_of h) (length s) i checked d
 
-  pub start_refused : (o : FieldOp) (r : Refusal) → x ≡ O.Refused r → {a : HostAnswer} → a ≡ outcome_answer x → called h a ≡ start_call h s i o
+  pub start_refused : (o : FieldOp) (r : Refusal) → x ≡ O.Refused r → {a : Answer} → a ≡ outcome_answer x → called h a ≡ start_call h s i o
   unfolding start_answer outcome_answer
-  start_refused o r z ea = ap (called h) (ea ∙ ap outcome_answer z) ∙ ap (started_call h i) (start-unchecked (table_of h) s i o checked r z)
+  start_refused o r z ea = ap (called h) (ea ∙ ap outcome_answer z) ∙ ap (started_call h i) (start_unchecked (table_of h) s i o checked r z)
 
-  pub step_refused : (r : Refusal) → x ≡ O.Refused r → {a : HostAnswer} → a ≡ outcome_answer x → called h a ≡ step_call h s i
+  pub step_refused : (r : Refusal) → x ≡ O.Refused r → {a : Answer} → a ≡ outcome_answer x → called h a ≡ step_call h s i
   unfolding step_answer outcome_answer
-  step_refused r z ea = ap (called h) (ea ∙ ap outcome_answer z) ∙ ap (stepped_call h i) (step-unchecked (table_of h) s i checked r z)
+  step_refused r z ea = ap (called h) (ea ∙ ap outcome_answer z) ∙ ap (stepped_call h i) (step_unchecked (table_of h) s i checked r z)
 
   pub step_kept : (r : Refusal) → x ≡ O.Refused r → s ≡ step_region (table_of h) s i
-  step_kept r z = region-unchecked (table_of h) s i checked r z
+  step_kept r z = region_unchecked (table_of h) s i checked r z
 
   module _ (d : x ≡ O.Done) {k : Task} (ek : k ≡ task_of (host_task_at h i)) where
     there : k ≡ task_at (table_of h) i
-    there = ek ∙ sym (task_there h i (host-small d))
+    there = ek ∙ sym (task_there h i (host_small d))
 
     module _ (o : FieldOp) {q : FieldOp} (eo : q ≡ o) {y : StartAnswer} (ey : y ≡ start_task h.size k.busy q) where
       begun : y ≡ start_task h.size (task_at (table_of h) i).busy o
       begun = ey ∙ ap (λ (b : Task). start_task h.size b.busy q) there ∙ ap (start_task h.size (task_at (table_of h) i).busy) eo
 
-      pub start-count : start_count y ≤ 11
-      start-count = rw ey (start_most h.size k.busy q)
+      pub start_count_lem : start_count y ≤ 11
+      start_count_lem = rw ey (start_most h.size k.busy q)
 
-      pub start-kept : (r : Refusal) → y ≡ SA.Refused r → {a : HostAnswer} → a ≡ start_answer y → called h a ≡ start_call h s i o
-      start-kept r z ea =
+      pub start_kept : (r : Refusal) → y ≡ SA.Refused r → {a : Answer} → a ≡ start_answer y → called h a ≡ start_call h s i o
+      start_kept r z ea =
           let same : called h (start_answer y) ≡ started_call h i (record { table = table_of h; answer = y }) = rw z refl in
-          ap (called h) ea ∙ same ∙ ap (started_call h i) (start-stayed (table_of h) s i o checked d begun r z)
+          ap (called h) ea ∙ same ∙ ap (started_call h i) (start_stayed (table_of h) s i o checked d begun r z)
 
-      pub start-taken : (n : ℕ) → y ≡ SA.Count n → {a : HostAnswer} → a ≡ start_answer y → {e : HostTask}
+      pub start_taken : (n : ℕ) → y ≡ SA.Count n → {a : Answer} → a ≡ start_answer y → {e : HostTask}
           → e ≡ numbers_of_task (record { busy = true; op = q; made = 0; held = 0 }) → called (Next h h.holder i e) a ≡ start_call h s i o
-      start-taken n z ea ee =
+      start_taken n z ea ee =
           let u = with_task (table_of h) h.holder i (started o) in
           let numbers = ee ∙ ap (λ (b : FieldOp). numbers_of_task (started b)) eo in
-          let next : Next h h.holder i (numbers_of_task (started o)) ≡ table_after (start_took y) h i u = rw z (sym (changed_is h h.holder i (started o) (host-small d))) in
-          rw (ea, numbers, next) (ap (started_call h i) (start-begun (table_of h) s i o checked d begun n z refl))
+          let next : Next h h.holder i (numbers_of_task (started o)) ≡ table_after (start_took y) h i u = rw z (sym (changed_is h h.holder i (started o) (host_small d))) in
+          rw (ea, numbers, next) (ap (started_call h i) (start_begun (table_of h) s i o checked d begun n z refl))
 
     module _ {v : Moved} (q : v ≡ step_task h.holder i k s) where
       moved : v ≡ step_task h.holder i (task_at (table_of h) i) s
@@ -142,37 +143,37 @@ module _ (h : HostTable) (s : List ℕ) (i : ℕ) {m : Bool} (em : m ≡ malform
       took : step_took v.answer ≡ v.accepted
       took = rw q (took_is h.holder i k s)
 
-      pub step_left : not v.accepted ≡ true → {a : HostAnswer} → a ≡ step_answer v.answer → called h a ≡ step_call h s i
+      pub step_left : not v.accepted ≡ true → {a : Answer} → a ≡ step_answer v.answer → called h a ≡ step_call h s i
       step_left z ea =
           let same : called h (step_answer v.answer) ≡ stepped_call h i (record { table = table_of h; answer = v.answer }) = rw (took ∙ not-true _ z) refl in
-          ap (called h) ea ∙ same ∙ ap (stepped_call h i) (step-stayed (table_of h) s i checked d moved z)
+          ap (called h) ea ∙ same ∙ ap (stepped_call h i) (step_stayed (table_of h) s i checked d moved z)
 
-      pub step-taken : not v.accepted ≡ false → {a : HostAnswer} → a ≡ step_answer v.answer → {e : HostTask} → e ≡ numbers_of_task v.task
+      pub step_taken : not v.accepted ≡ false → {a : Answer} → a ≡ step_answer v.answer → {e : HostTask} → e ≡ numbers_of_task v.task
           → called (Next h v.holder i e) a ≡ step_call h s i
-      step-taken z ea ee =
+      step_taken z ea ee =
           let u = with_task (table_of h) v.holder i v.task in
           let next : Next h v.holder i (numbers_of_task v.task) ≡ table_after (step_took v.answer) h i u =
-          rw (took ∙ not_false _ z) (sym (changed_is h v.holder i v.task (host-small d))) in
-          rw (ea, ee, next) (ap (stepped_call h i) (step-moved (table_of h) s i checked d moved z refl))
+          rw (took ∙ not_false _ z) (sym (changed_is h v.holder i v.task (host_small d))) in
+          rw (ea, ee, next) (ap (stepped_call h i) (step_moved (table_of h) s i checked d moved z refl))
 
-      pub step-region : {s' : List ℕ} → s' ≡ step_task_region h.holder k s → s' ≡ step_region (table_of h) s i
-      step-region z = region-moved (table_of h) s i checked d (z ∙ ap (λ (b : Task). step_task_region h.holder b s) there)
+      pub step_region_lem : {s' : List ℕ} → s' ≡ step_task_region h.holder k s → s' ≡ step_region (table_of h) s i
+      step_region_lem z = region_moved (table_of h) s i checked d (z ∙ ap (λ (b : Task). step_task_region h.holder b s) there)
 
 -- ---- a new table
 
-pub new_call_lem : (n : ℕ) {m : Made} → m ≡ new_table n → {x : HostTable} → x ≡ fresh_numbers m.table.size → {a : HostAnswer} → a ≡ outcome_answer m.answer
+pub new_call_lem : (n : ℕ) {m : Made} → m ≡ new_table n → {x : HostTable} → x ≡ fresh_numbers m.table.size → {a : Answer} → a ≡ outcome_answer m.answer
     → called x a ≡ new_call n
 new_call_lem n e ex ea = rw (ex, ea) (ap (λ (m : Made). called (fresh_numbers m.table.size) (outcome_answer m.answer)) e)
 
 -- ---- busy and write
 
 module _ (busy write size : ℕ) where
-  pub busy-wrong : 1 < busy → 0 ≡ length_if_valid busy write size
-  busy-wrong h = sym (rw (lt-leb busy 1 h) refl)
+  pub busy_wrong : 1 < busy → 0 ≡ length_said busy write size
+  busy_wrong h = sym (rw (lt-leb busy 1 h) refl)
 
   module _ (b : busy ≤ 1) where
-    pub write-wrong : 1 < write → 0 ≡ length_if_valid busy write size
-    write-wrong h = sym (rw (le-leb busy 1 b, lt-leb write 1 h) refl)
+    pub write_wrong : 1 < write → 0 ≡ length_said busy write size
+    write_wrong h = sym (rw (le-leb busy 1 b, lt-leb write 1 h) refl)
 
-    pub length-right : write ≤ 1 → size ≡ length_if_valid busy write size
-    length-right h = sym (rw (le-leb busy 1 b, le-leb write 1 h) refl)
+    pub length_right : write ≤ 1 → size ≡ length_said busy write size
+    length_right h = sym (rw (le-leb busy 1 b, le-leb write 1 h) refl)

@@ -24,10 +24,10 @@ use Rattle.types.proofs.Judging.{none_holds}
 use Rattle.task.proofs.Calls.{start_passed, step_passed}
 use Rattle.task.proofs.Sound.{set_this}
 use Rattle.link.specs.Fields.{space_of, space_number}
-use Rattle.link.specs.Tables.{truth_of, op_of, length_if_valid, task_of, no_task, host_task_at, table_of, numbers_of_task, changed, fresh_numbers, started_call, stepped_call, NewSays, StartSays, StepSays, DamagedIsMalformed}
+use Rattle.link.specs.Tables.{truth_of, op_of, length_said, task_of, no_task, host_task_at, table_of, numbers_of_task, changed, fresh_numbers, started_call, stepped_call, NewSays, StartSays, StepSays, DamagedIsMalformed}
 use Rattle.link.specs.declared.tables.HostTask.{HostTask}
 use Rattle.link.specs.declared.tables.HostTable.{HostTable}
-use Rattle.link.proofs.Hosted.{start_by, start_is, stepBy, step_is, task_there, took_after}
+use Rattle.link.proofs.Hosted.{start_by, start_is, step_by, step_is, task_there, took_after}
 
 abbrev new_by : ℕ → Outcome → Made
 new_by n o = judged o (record { table = fresh n; answer = O.Done }) (λ r. record { table = fresh 0; answer = O.Refused r })
@@ -55,7 +55,7 @@ truth_back : (b : Bool) → truth_of (cond b 1 0) ≡ b
 truth_back true = refl
 truth_back false = refl
 
-length_back : (b w : Bool) (n : ℕ) → length_if_valid (cond b 1 0) (cond w 1 0) n ≡ n
+length_back : (b w : Bool) (n : ℕ) → length_said (cond b 1 0) (cond w 1 0) n ≡ n
 length_back true true n = refl
 length_back true false n = refl
 length_back false true n = refl
@@ -106,15 +106,15 @@ unfolding new_table
 new_says n = new_by_lem n (first_of ((ltb 65536 n, R.TooManyBytes) ∷ []))
 
 module _ (h : HostTable) (len : length h.tasks ≡ 4) (s : List ℕ) (i : ℕ) (o : FieldOp) (n : ℕ) (e : o.field.space ≡ space_of n) where
-  start_by : (c : Outcome) → first_of (start_checks (table_of h) s i o) ≡ c
+  start_by_lem : (c : Outcome) → first_of (start_checks (table_of h) s i o) ≡ c
       → table_of (started_call h i (start_by (table_of h) s i o c)).table ≡ (start_by (table_of h) s i o c).table
-  start_by O.Done p = changed_says h len i (start_passed (table_of h) s i o p).small h.holder (started o) (task_back (started o) n e)
-  start_by (O.Refused r) p = refl
+  start_by_lem O.Done p = changed_says h len i (start_passed (table_of h) s i o p).small h.holder (started o) (task_back (started o) n e)
+  start_by_lem (O.Refused r) p = refl
 
 pub start_says : StartSays
 start_says h len s i write space flags offset size value =
     let o = op_of write space flags offset size value in
-    rw (start_is (table_of h) s i o) (start_by h len s i o space refl (first_of (start_checks (table_of h) s i o)) refl)
+    rw (start_is (table_of h) s i o) (start_by_lem h len s i o space refl (first_of (start_checks (table_of h) s i o)) refl)
 
 after_back : (l : Bool) (k : Task) (x n : ℕ) → k.op.field.space ≡ space_of n → task_of (numbers_of_task (task_after l k x)) ≡ task_after l k x
 unfolding space_of
@@ -122,19 +122,19 @@ after_back true k x n e = refl
 after_back false k x n e = task_back (task_after false k x) n e
 
 module _ (h : HostTable) (len : length h.tasks ≡ 4) (s : List ℕ) (i : ℕ) where
-  step_by : (c : Outcome) → first_of (step_checks (table_of h) s i) ≡ c
-      → table_of (stepped_call h i (stepBy (table_of h) s i c)).table ≡ (stepBy (table_of h) s i c).table
-  step_by O.Done p =
+  step_by_lem : (c : Outcome) → first_of (step_checks (table_of h) s i) ≡ c
+      → table_of (stepped_call h i (step_by (table_of h) s i c)).table ≡ (step_by (table_of h) s i c).table
+  step_by_lem O.Done p =
       let k = task_at (table_of h) i in
       let x = (accessed k s).held in
       let small = (step_passed (table_of h) s i p).small in
       let there : k.op.field.space ≡ space_of (host_task_at h i).space = ap (λ (y : Task). y.op.field.space) (task_there h i small) in
       rw (took_after (is_last k) k.op.write x)
       (changed_says h len i small (holder_after (carries_lock k.op) (is_last k) i h.holder) (task_after (is_last k) k x) (after_back (is_last k) k x _ there))
-  step_by (O.Refused r) p = refl
+  step_by_lem (O.Refused r) p = refl
 
 pub step_says : StepSays
-step_says h len s i = rw (step_is (table_of h) s i) (step_by h len s i (first_of (step_checks (table_of h) s i)) refl)
+step_says h len s i = rw (step_is (table_of h) s i) (step_by_lem h len s i (first_of (step_checks (table_of h) s i)) refl)
 
 -- ---- a busy task of other numbers
 
@@ -177,16 +177,16 @@ module _ (s a b c d w : Bool) where
       (or_right a (b || (c || (d || w))) (or_right b (c || (d || w)) (or_right c (d || w) (or_left d w e))))
 
 module _ (h : HostTable) where
-  abbrev badAt : ℕ → Bool
-  badAt i = bad_task h.size (task_of (host_task_at h i))
+  abbrev bad_at : ℕ → Bool
+  bad_at i = bad_task h.size (task_of (host_task_at h i))
 
   abbrev wrong : Bool
   wrong = wrong_holder (lockers (table_of h)) h.holder
 
 pub damaged_is_malformed : DamagedIsMalformed
 unfolding malformed
-damaged_is_malformed h zero q b d = bad_0 (ltb 65536 h.size) (badAt h 0) (badAt h 1) (badAt h 2) (badAt h 3) (wrong h) (bad (host_task_at h 0) h.size b d)
-damaged_is_malformed h (suc zero) q b d = bad_1 (ltb 65536 h.size) (badAt h 0) (badAt h 1) (badAt h 2) (badAt h 3) (wrong h) (bad (host_task_at h 1) h.size b d)
-damaged_is_malformed h (suc (suc zero)) q b d = bad_2 (ltb 65536 h.size) (badAt h 0) (badAt h 1) (badAt h 2) (badAt h 3) (wrong h) (bad (host_task_at h 2) h.size b d)
-damaged_is_malformed h (suc (suc (suc zero))) q b d = bad_3 (ltb 65536 h.size) (badAt h 0) (badAt h 1) (badAt h 2) (badAt h 3) (wrong h) (bad (host_task_at h 3) h.size b d)
+damaged_is_malformed h zero q b d = bad_0 (ltb 65536 h.size) (bad_at h 0) (bad_at h 1) (bad_at h 2) (bad_at h 3) (wrong h) (bad (host_task_at h 0) h.size b d)
+damaged_is_malformed h (suc zero) q b d = bad_1 (ltb 65536 h.size) (bad_at h 0) (bad_at h 1) (bad_at h 2) (bad_at h 3) (wrong h) (bad (host_task_at h 1) h.size b d)
+damaged_is_malformed h (suc (suc zero)) q b d = bad_2 (ltb 65536 h.size) (bad_at h 0) (bad_at h 1) (bad_at h 2) (bad_at h 3) (wrong h) (bad (host_task_at h 2) h.size b d)
+damaged_is_malformed h (suc (suc (suc zero))) q b d = bad_3 (ltb 65536 h.size) (bad_at h 0) (bad_at h 1) (bad_at h 2) (bad_at h 3) (wrong h) (bad (host_task_at h 3) h.size b d)
 damaged_is_malformed h (suc (suc (suc (suc i)))) q b d = absurd (omega (arith, q))

@@ -9,9 +9,9 @@ use borrow.Author.Tests.{not-true, not-false, eq-eqb, ne_eqb, lt-leb}
 use Rattle.types.specs.declared.value.AmlType.{AmlType}
 use Rattle.types.specs.declared.value.AmlValue.{AmlValue}
 use Rattle.link.specs.Values.{is_type, is_kind, value_of, type_named, with_value, with_both, with_type}
-use Rattle.link.specs.declared.host_value.Given.{Given}
-use Rattle.link.specs.declared.host_value.Given.TheVariants as G
-use Rattle.link.specs.declared.host_value.HostValue.{HostValue}
+use Rattle.link.specs.declared.given.Given.{Given}
+use Rattle.link.specs.declared.given.Given.TheVariants as G
+use Rattle.link.specs.declared.given.HostValue.{HostValue}
 
 -- ---- a look
 
@@ -37,9 +37,9 @@ module _ {A : Type 0} (h : HostValue) (f : AmlValue → A) (z : A) {g : Given} (
   unfolding with_value
   no_value p q = q ∙ sym (told_no f z (value_of h) (is_kind h.kind) (sym e ∙ p))
 
-  pub is-value : {v : AmlValue} → g ≡ G.Value v → {x : A} → x ≡ f v → x ≡ with_value h f z
+  pub is_value : {v : AmlValue} → g ≡ G.Value v → {x : A} → x ≡ f v → x ≡ with_value h f z
   unfolding with_value
-  is-value p q = q ∙ sym (told_yes f z (value_of h) (is_kind h.kind) (sym e ∙ p))
+  is_value p q = q ∙ sym (told_yes f z (value_of h) (is_kind h.kind) (sym e ∙ p))
 
 -- ---- two
 
@@ -49,15 +49,15 @@ module _ {A : Type 0} (l r : HostValue) (f : AmlValue → AmlValue → A) (z : A
   both_in_turn = sym (in_turn (is_kind l.kind) (is_kind r.kind) (f (value_of l) (value_of r)) z)
 
   module _ {g : Given} (e : g ≡ with_value l G.Value G.NoKind) where
-    pub no-left : g ≡ G.NoKind → {x : A} → x ≡ z → x ≡ with_both l r f z
-    no-left p q = no_value l (λ v. with_value r (f v) z) z e p q ∙ both_in_turn
+    pub no_left : g ≡ G.NoKind → {x : A} → x ≡ z → x ≡ with_both l r f z
+    no_left p q = no_value l (λ v. with_value r (f v) z) z e p q ∙ both_in_turn
 
     module _ {v : AmlValue} (p : g ≡ G.Value v) {k : Given} (d : k ≡ with_value r G.Value G.NoKind) where
-      pub no-right : k ≡ G.NoKind → {x : A} → x ≡ z → x ≡ with_both l r f z
-      no-right n q = is-value l (λ v. with_value r (f v) z) z e p (no_value r (f v) z d n q) ∙ both_in_turn
+      pub no_right : k ≡ G.NoKind → {x : A} → x ≡ z → x ≡ with_both l r f z
+      no_right n q = is_value l (λ v. with_value r (f v) z) z e p (no_value r (f v) z d n q) ∙ both_in_turn
 
-      pub are-values : {w : AmlValue} → k ≡ G.Value w → {x : A} → x ≡ f v w → x ≡ with_both l r f z
-      are-values n q = is-value l (λ v. with_value r (f v) z) z e p (is-value r (f v) z d n q) ∙ both_in_turn
+      pub are_values : {w : AmlValue} → k ≡ G.Value w → {x : A} → x ≡ f v w → x ≡ with_both l r f z
+      are_values n q = is_value l (λ v. with_value r (f v) z) z e p (is_value r (f v) z d n q) ∙ both_in_turn
 
 -- ---- a value and a type
 
@@ -73,27 +73,27 @@ module _ {A : Type 0} (h : HostValue) (n : ℕ) (f : AmlValue → AmlType → A)
   no_kind p q = no_value h typed z e p q ∙ type_in_turn
 
   module _ {v : AmlValue} (p : g ≡ G.Value v) {b : Bool} (d : b ≡ is_type n) where
-    pub no-type : not b ≡ true → {x : A} → x ≡ z → x ≡ with_type h n f z
-    no-type m q =
+    pub no_type : not b ≡ true → {x : A} → x ≡ z → x ≡ with_type h n f z
+    no_type m q =
         let no : is_type n ≡ false = sym d ∙ not-true b m in
-        is-value h typed z e p (q ∙ sym (ap (λ (k : Bool). cond k (f v (type_named n)) z) no)) ∙ type_in_turn
+        is_value h typed z e p (q ∙ sym (ap (λ (k : Bool). cond k (f v (type_named n)) z) no)) ∙ type_in_turn
 
-    pub is-type : not b ≡ false → {t : AmlType} → t ≡ type_named n → {x : A} → x ≡ f v t → x ≡ with_type h n f z
-    is-type m k q =
+    pub is_type_lem : not b ≡ false → {t : AmlType} → t ≡ type_named n → {x : A} → x ≡ f v t → x ≡ with_type h n f z
+    is_type_lem m k q =
         let yes : is_type n ≡ true = sym d ∙ not-false b m in
-        is-value h typed z e p (q ∙ ap (f v) k ∙ sym (ap (λ (k : Bool). cond k (f v (type_named n)) z) yes)) ∙ type_in_turn
+        is_value h typed z e p (q ∙ ap (f v) k ∙ sym (ap (λ (k : Bool). cond k (f v (type_named n)) z) yes)) ∙ type_in_turn
 
 -- ---- which numbers are types
 
 module _ (n : ℕ) where
-  pub type-zero : n ≡ 0 → false ≡ is_type n
-  type-zero e = rw (eq-eqb n 0 e)
+  pub type_zero : n ≡ 0 → false ≡ is_type n
+  type_zero e = rw (eq-eqb n 0 e)
 
-  pub type-seven : (n ≡ 0 → ⊥) → n ≡ 7 → false ≡ is_type n
-  type-seven z e = rw (ne_eqb n 0 z, eq-eqb n 7 e)
+  pub type_seven : (n ≡ 0 → ⊥) → n ≡ 7 → false ≡ is_type n
+  type_seven z e = rw (ne_eqb n 0 z, eq-eqb n 7 e)
 
-  pub type-else : (n ≡ 0 → ⊥) → (n ≡ 7 → ⊥) → leb n 14 ≡ is_type n
-  type-else z e = rw (ne_eqb n 0 z, ne_eqb n 7 e)
+  pub type_else : (n ≡ 0 → ⊥) → (n ≡ 7 → ⊥) → leb n 14 ≡ is_type n
+  type_else z e = rw (ne_eqb n 0 z, ne_eqb n 7 e)
 
 -- past a Boolean's number there is no kind
 pub past_kinds : (h : HostValue) → 18 ≤ h.kind → G.NoKind ≡ with_value h G.Value G.NoKind

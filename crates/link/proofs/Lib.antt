@@ -5,4 +5,3 @@ pub mod Hosted
 pub mod Parts
 pub mod Known
 pub mod Kept
-pub mod EachAnswer

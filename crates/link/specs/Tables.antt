@@ -3,8 +3,6 @@
 -- Assumes nothing.
 use Rattle.std.specs.Prelude.{ℕ, ◌<◌, ◌≡◌, Bool, true, false, not, cond, ◌&&◌, List, [], ◌∷◌, eqb, leb, length, get_or, set}
 use Rattle.types.specs.Values.{type_number_of}
-use Rattle.types.specs.declared.refusal.Outcome.{Outcome}
-use Rattle.types.specs.declared.refusal.Outcome.TheVariants as O
 use Rattle.types.specs.declared.value.AmlType.TheVariants as AT
 use Rattle.field_unit.specs.declared.access.FieldOp.{FieldOp}
 use Rattle.task.specs.Tasks as T
@@ -16,9 +14,9 @@ use Rattle.task.specs.declared.table.StartAnswer.TheVariants as SA
 use Rattle.task.specs.declared.table.Stepped.{Stepped}
 use Rattle.task.specs.declared.table.StepAnswer.{StepAnswer}
 use Rattle.task.specs.declared.table.StepAnswer.TheVariants as ST
-use Rattle.link.specs.Answers.{accepted, refused_by}
+use Rattle.link.specs.Answers.{accepted, refused_by, outcome_answer}
 use Rattle.link.specs.Fields.{field_of, space_number}
-use Rattle.link.specs.declared.answer.HostAnswer.{HostAnswer}
+use Rattle.link.specs.declared.answer.Answer.{Answer}
 use Rattle.link.specs.declared.tables.HostTask.{HostTask}
 use Rattle.link.specs.declared.tables.HostTable.{HostTable}
 use Rattle.link.specs.declared.tables.Called.{Called}
@@ -33,13 +31,13 @@ abbrev pub op_of : ℕ → ℕ → ℕ → ℕ → ℕ → ℕ → FieldOp
 op_of write space flags offset size value = record { write = truth_of write; field = field_of space flags offset size; value = value }
 
 -- the field's length; none where busy or write is neither 0 nor 1
-abbrev pub length_if_valid : ℕ → ℕ → ℕ → ℕ
-length_if_valid busy write size = cond (leb busy 1 && leb write 1) size 0
+abbrev pub length_said : ℕ → ℕ → ℕ → ℕ
+length_said busy write size = cond (leb busy 1 && leb write 1) size 0
 
 abbrev pub task_of : HostTask → Task
 task_of k = record {
   busy = truth_of k.busy;
-  op = op_of k.write k.space k.flags k.offset (length_if_valid k.busy k.write k.length) k.value;
+  op = op_of k.write k.space k.flags k.offset (length_said k.busy k.write k.length) k.value;
   made = k.made;
   held = k.held;
 }
@@ -81,12 +79,8 @@ fresh_numbers n = record { size = n; holder = 4; tasks = no_task ∷ no_task ∷
 
 -- ---- calls: a refusal leaves the host's table as it was
 
-abbrev pub called : HostTable → HostAnswer → Called
+abbrev pub called : HostTable → Answer → Called
 called h a = record { table = h; answer = a }
-
-unfoldable pub outcome_answer : Outcome → HostAnswer
-outcome_answer O.Done = accepted 0 0 0
-outcome_answer (O.Refused r) = refused_by r
 
 -- a new table, or one for no bytes beside the refusal
 abbrev pub new_call : ℕ → Called
@@ -106,7 +100,7 @@ start_count (SA.Count n) = n
 start_count (SA.Refused r) = 0
 
 -- the count of loads and stores to come
-unfoldable pub start_answer : StartAnswer → HostAnswer
+unfoldable pub start_answer : StartAnswer → Answer
 start_answer (SA.Count n) = accepted 0 n 0
 start_answer (SA.Refused r) = refused_by r
 
@@ -123,7 +117,7 @@ step_took (ST.Value x) = true
 step_took (ST.Refused r) = false
 
 -- count 1: more to come; 0: the last access was made, and a read has its value
-unfoldable pub step_answer : StepAnswer → HostAnswer
+unfoldable pub step_answer : StepAnswer → Answer
 step_answer ST.More = accepted 0 1 0
 step_answer ST.Done = accepted 0 0 0
 step_answer (ST.Value x) = accepted (type_number_of AT.Integer) 0 x

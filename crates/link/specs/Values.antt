@@ -7,7 +7,7 @@ use Rattle.types.specs.declared.value.AmlType.TheVariants as T
 use Rattle.types.specs.declared.value.AmlValue.{AmlValue}
 use Rattle.types.specs.declared.value.AmlValue.TheVariants as Val
 use Rattle.link.specs.Fields.{field_of}
-use Rattle.link.specs.declared.host_value.HostValue.{HostValue}
+use Rattle.link.specs.declared.given.HostValue.{HostValue}
 
 abbrev pub is_type : ℕ → Bool
 is_type n = not (eqb n 0) && (not (eqb n 7) && leb n 14)

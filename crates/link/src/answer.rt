@@ -1,14 +1,18 @@
 // The numbers of an answer.
 ghost use Rattle.std.specs.Prelude.{◌≡◌, cond, ◌≤◌};
-ghost use Rattle.types.specs.Answers.{said, refusal, said_counted};
-ghost use Rattle.expression.specs.Mid.{placed_part};
-ghost use Rattle.link.specs.Answers as Host;
-ghost use Rattle.link.specs.Words.{pack_said, unpacked};
+ghost use Rattle.link.specs.Answers.{present_of, wanted_of, no_such_kind, read_answer, outcome_answer, unit_read_answer, unit_written_answer, read_count, written_count};
+ghost use Rattle.link.specs.Answers.{kind_answer, integer_answer, bool_answer, bytes_answer, type_answer, status_number, status_answer, compare_answer, concat_answer, place_answer, place_count};
+ghost use Rattle.link.specs.Words.{word_of, of_word};
 
-use expression::mid::Part;
-use types::answer::{Answer, Counted, StatusObject};
-use types::refusal::{CarriedTypes, Refusal, number, types_of};
+use buffer_field::FieldRead;
+use expression::compare::CompareAnswer;
+use expression::concat::ConcatAnswer;
+use expression::mid::Place;
+use field_unit::whole::{UnitRead, UnitWritten};
+use types::refusal::{Outcome, Refusal, Types, number, types_of};
 use types::value::{AmlType, type_number};
+use value::convert::{BoolAnswer, IntegerAnswer, LengthAnswer, TypeAnswer};
+use value::status::{StatusAnswer, StatusObject};
 
 // It comes back in two registers.
 // status: document 01's number of the refusal, 0 where there is none; 255 where the host named a kind that is none. present, wanted: ACPI's
@@ -16,7 +20,7 @@ use types::value::{AmlType, type_number};
 // count: the loads and stores made. value: an Integer, 0 or 1 of a Boolean, or how many bytes a Buffer or a String has.
 #[repr(C)]
 #[derive(Drop)]
-pub struct HostAnswer {
+pub struct Answer {
     pub status: u8,
     pub present: u8,
     pub wanted: u8,
@@ -25,10 +29,10 @@ pub struct HostAnswer {
     pub value: u64,
 }
 
-pub(crate) fn accepted(kind: u8, count: u32, value: u64) -> HostAnswer
-    ensures { result ≡ Host.accepted kind count value }
+pub(crate) fn accepted(kind: u8, count: u32, value: u64) -> Answer
+    ensures { result ≡ Rattle.link.specs.Answers.accepted kind count value }
 {
-    HostAnswer {
+    Answer {
         status: 0,
         present: 0,
         wanted: 0,
@@ -38,10 +42,10 @@ pub(crate) fn accepted(kind: u8, count: u32, value: u64) -> HostAnswer
     }
 }
 
-fn carrying(status: u8, present: u8, wanted: u8) -> HostAnswer
+fn carrying(status: u8, present: u8, wanted: u8) -> Answer
     ensures { result ≡ (record { status = status; present = present; wanted = wanted; kind = 0; count = 0; value = 0 }) }
 {
-    HostAnswer {
+    Answer {
         status,
         present,
         wanted,
@@ -52,212 +56,188 @@ fn carrying(status: u8, present: u8, wanted: u8) -> HostAnswer
 }
 
 // The type met, or the present one.
-fn present_of(types: CarriedTypes) -> u8
-    ensures { result ≡ Host.present_of types }
+fn present_of(types: Types) -> u8
+    ensures { result ≡ present_of types }
 {
     match types {
-        CarriedTypes::Nothing => 0,
-        CarriedTypes::Met(met) => type_number(met),
-        CarriedTypes::Conversion { current, target: _ } => type_number(current),
+        Types::Nothing => 0,
+        Types::Met(met) => type_number(met),
+        Types::Conversion { current, target: _ } => type_number(current),
     }
 }
 
-fn wanted_of(types: CarriedTypes) -> u8
-    ensures { result ≡ Host.wanted_of types }
+fn wanted_of(types: Types) -> u8
+    ensures { result ≡ wanted_of types }
 {
     match types {
-        CarriedTypes::Nothing => 0,
-        CarriedTypes::Met(_) => 0,
-        CarriedTypes::Conversion { current: _, target } => type_number(target),
+        Types::Nothing => 0,
+        Types::Met(_) => 0,
+        Types::Conversion { current: _, target } => type_number(target),
     }
 }
 
 // A refusal's number and its two types, a byte each: a word stays in a register where an answer would go through memory.
-fn pack_refusal(r: Refusal) -> u32
-    ensures { result ≡ pack_said (refusal r) }
+pub(crate) fn word_of(r: Refusal) -> u32
+    ensures { result ≡ word_of r }
 {
     let types = types_of(r);
     number(r) as u32 + 256 * present_of(types) as u32 + 65536 * wanted_of(types) as u32
 }
 
-// The answer of such a word and a number.
-fn unpack(word: u32, value: u64) -> HostAnswer
-    ensures { result ≡ unpacked word value }
+// The answer of such a word.
+pub(crate) fn refused(word: u32) -> Answer
+    ensures { result ≡ of_word word }
 {
-    HostAnswer {
-        status: (word % 256) as u8,
-        present: (word / 256 % 256) as u8,
-        wanted: (word / 65536 % 256) as u8,
-        kind: (word / 16777216) as u8,
-        count: 0,
-        value,
-    }
+    carrying(
+        (word % 256) as u8,
+        (word / 256 % 256) as u8,
+        (word / 65536 % 256) as u8,
+    )
 }
 
-pub(crate) fn refused(r: Refusal) -> HostAnswer
-    ensures { result ≡ Host.refused_by r }
-{
-    unpack(pack_refusal(r), 0)
-}
-
-pub(crate) fn no_such_kind() -> HostAnswer
-    ensures { result ≡ Host.no_such_kind }
+pub(crate) fn no_such_kind() -> Answer
+    ensures { result ≡ no_such_kind }
 {
     carrying(255, 0, 0)
 }
 
-pub(crate) fn kind_answer(t: AmlType) -> HostAnswer
-    ensures { result ≡ Host.kind_answer t }
+pub(crate) fn kind_answer(t: AmlType) -> Answer
+    ensures { result ≡ kind_answer t }
 {
     accepted(type_number(t), 0, 0)
 }
 
-// n if b holds.
-fn if_set(b: bool, n: u64) -> u64
+pub(crate) fn integer_answer(r: IntegerAnswer) -> Answer
+    ensures { result ≡ integer_answer r }
+{
+    match r {
+        IntegerAnswer::Integer(n) => accepted(1, 0, n),
+        IntegerAnswer::Refused(why) => refused(word_of(why)),
+    }
+}
+
+// n where b holds.
+fn where_set(b: bool, n: u64) -> u64
     ensures { (result ≡ cond b n 0) × (result ≤ n) }
 {
     if b { n } else { 0 }
 }
 
+pub(crate) fn bool_answer(r: BoolAnswer) -> Answer
+    ensures { result ≡ bool_answer r }
+{
+    match r {
+        BoolAnswer::Bool(b) => accepted(17, 0, where_set(b, 1)),
+        BoolAnswer::Refused(why) => refused(word_of(why)),
+    }
+}
+
+// A Buffer's or a String's bytes stand at the front of the output.
+pub(crate) fn bytes_answer(kind: u8, r: LengthAnswer) -> Answer
+    ensures { result ≡ bytes_answer kind r }
+{
+    match r {
+        LengthAnswer::Length(n) => accepted(kind, 0, n as u64),
+        LengthAnswer::Refused(why) => refused(word_of(why)),
+    }
+}
+
+pub(crate) fn type_answer(r: TypeAnswer) -> Answer
+    ensures { result ≡ type_answer r }
+{
+    match r {
+        TypeAnswer::Same => accepted(0, 0, 0),
+        TypeAnswer::Integer(n) => accepted(1, 0, n),
+        TypeAnswer::Buffer(n) => accepted(3, 0, n as u64),
+        TypeAnswer::Refused(why) => refused(word_of(why)),
+    }
+}
+
 // Bits 0 to 4, as _STA has them.
 pub(crate) fn status_number(s: StatusObject) -> u64
-    ensures { result ≡ Host.status_number s }
+    ensures { result ≡ status_number s }
 {
-    let low = if_set(s.present, 1) + if_set(s.enabled, 2) + if_set(s.show_in_ui, 4);
-    low + if_set(s.functional, 8) + if_set(s.battery_present, 16)
+    let low = where_set(s.present, 1) + where_set(s.enabled, 2) + where_set(s.show_in_ui, 4);
+    low + where_set(s.functional, 8) + where_set(s.battery_present, 16)
 }
 
-// What is said of an answer but its value: the refusal's number, its types, the value's kind, a byte each.
-fn pack_answer(answer: Answer) -> u32
-    ensures { result ≡ pack_said (said answer) }
+pub(crate) fn status_answer(r: StatusAnswer) -> Answer
+    ensures { result ≡ status_answer r }
 {
-    match answer {
-        Answer::Done => 0,
-        Answer::Boolean(_) => 285212672,
-        Answer::Integer(_) => 16777216,
-        Answer::String(_) => 33554432,
-        Answer::Buffer(_) => 50331648,
-        Answer::Itself => 0,
-        Answer::Less => 16777216,
-        Answer::Equal => 16777216,
-        Answer::Greater => 16777216,
-        Answer::Status(_) => 16777216,
-        Answer::Refused(r) => pack_refusal(r),
+    match r {
+        StatusAnswer::Status(s) => accepted(1, 0, status_number(s)),
+        StatusAnswer::Refused(why) => refused(word_of(why)),
     }
 }
 
-// Its value as a number; a Buffer's or a String's bytes stand at the front of the output.
-fn value_of(answer: Answer) -> u64
-    ensures { result ≡ Host.number_in (said answer).value }
+// 0, 1, 2 for less, equal, greater.
+pub(crate) fn compare_answer(r: CompareAnswer) -> Answer
+    ensures { result ≡ compare_answer r }
 {
-    match answer {
-        Answer::Done => 0,
-        Answer::Boolean(b) => if_set(b, 1),
-        Answer::Integer(n) => n,
-        Answer::String(n) => n as u64,
-        Answer::Buffer(n) => n as u64,
-        Answer::Itself => 0,
-        Answer::Less => 0,
-        Answer::Equal => 1,
-        Answer::Greater => 2,
-        Answer::Status(s) => status_number(s),
-        Answer::Refused(_) => 0,
+    match r {
+        CompareAnswer::Less => accepted(1, 0, 0),
+        CompareAnswer::Equal => accepted(1, 0, 1),
+        CompareAnswer::Greater => accepted(1, 0, 2),
+        CompareAnswer::Refused(why) => refused(word_of(why)),
     }
 }
 
-// Of any answer: through two registers, so that nothing goes through memory.
-pub(crate) fn host_answer(answer: Answer) -> HostAnswer
-    ensures { result ≡ Host.host_answer (said answer) }
+pub(crate) fn concat_answer(r: ConcatAnswer) -> Answer
+    ensures { result ≡ concat_answer r }
 {
-    unpack(pack_answer(answer), value_of(answer))
-}
-
-// The same where a number is to be expected: it is looked at first.
-pub(crate) fn number_answer(answer: Answer) -> HostAnswer
-    ensures { result ≡ Host.host_answer (said answer) }
-{
-    match answer {
-        Answer::Integer(n) => accepted(1, 0, n),
-        Answer::Refused(r) => refused(r),
-        _ => host_answer(answer),
-    }
-}
-
-// Where nothing is to be given.
-pub(crate) fn done_answer(answer: Answer) -> HostAnswer
-    ensures { result ≡ Host.host_answer (said answer) }
-{
-    match answer {
-        Answer::Done => accepted(0, 0, 0),
-        Answer::Refused(r) => refused(r),
-        _ => host_answer(answer),
-    }
-}
-
-// Where a Boolean is.
-pub(crate) fn truth_answer(answer: Answer) -> HostAnswer
-    ensures { result ≡ Host.host_answer (said answer) }
-{
-    match answer {
-        Answer::Boolean(b) => accepted(17, 0, if_set(b, 1)),
-        Answer::Refused(r) => refused(r),
-        _ => host_answer(answer),
-    }
-}
-
-// Where a status is.
-pub(crate) fn status_answer(answer: Answer) -> HostAnswer
-    ensures { result ≡ Host.host_answer (said answer) }
-{
-    match answer {
-        Answer::Status(s) => accepted(1, 0, status_number(s)),
-        Answer::Refused(r) => refused(r),
-        _ => host_answer(answer),
-    }
-}
-
-// A field unit's.
-fn unit_answer(answer: Answer) -> HostAnswer
-    ensures { result ≡ Host.host_answer (said answer) }
-{
-    match answer {
-        Answer::Integer(n) => accepted(1, 0, n),
-        Answer::Done => accepted(0, 0, 0),
-        Answer::Refused(r) => refused(r),
-        _ => host_answer(answer),
-    }
-}
-
-// With the loads and stores made.
-pub(crate) fn host_counted(counted: Counted) -> HostAnswer
-    requires { counted.count ≤ 11 }
-    ensures { result ≡ Host.host_counted (said_counted counted) }
-{
-    let answer = counted.answer;
-    let a = unit_answer(answer);
-    HostAnswer {
-        status: a.status,
-        present: a.present,
-        wanted: a.wanted,
-        kind: a.kind,
-        count: counted.count as u32,
-        value: a.value,
+    match r {
+        ConcatAnswer::String(n) => accepted(2, 0, n as u64),
+        ConcatAnswer::Buffer(n) => accepted(3, 0, n as u64),
+        ConcatAnswer::Refused(why) => refused(word_of(why)),
     }
 }
 
 // A part of so many bytes at a place of the source.
-pub(crate) fn host_part(part: Part) -> HostAnswer
-    requires { Host.number_in (said part.answer).value ≤ 65536 }
-    ensures { result ≡ Host.host_part (placed_part (said part.answer) part.start) }
+pub(crate) fn place_answer(kind: u8, r: Place) -> Answer
+    requires { place_count r ≤ 65536 }
+    ensures { result ≡ place_answer kind r }
 {
-    let answer = part.answer;
-    let a = host_answer(answer);
-    HostAnswer {
-        status: a.status,
-        present: a.present,
-        wanted: a.wanted,
-        kind: a.kind,
-        count: a.value as u32,
-        value: part.start,
+    match r {
+        Place::At(at, count) => accepted(kind, count as u32, at),
+        Place::Refused(why) => refused(word_of(why)),
+    }
+}
+
+pub(crate) fn read_answer(r: FieldRead) -> Answer
+    ensures { result ≡ read_answer r }
+{
+    match r {
+        FieldRead::Integer(x) => accepted(1, 0, x),
+        FieldRead::Buffer(n) => accepted(3, 0, n as u64),
+        FieldRead::Refused(why) => refused(word_of(why)),
+    }
+}
+
+pub(crate) fn outcome_answer(r: Outcome) -> Answer
+    ensures { result ≡ outcome_answer r }
+{
+    match r {
+        Outcome::Done => accepted(0, 0, 0),
+        Outcome::Refused(why) => refused(word_of(why)),
+    }
+}
+
+pub(crate) fn unit_read_answer(r: UnitRead) -> Answer
+    requires { read_count r ≤ 11 }
+    ensures { result ≡ unit_read_answer r }
+{
+    match r {
+        UnitRead::Value { value, count } => accepted(1, count as u32, value),
+        UnitRead::Refused(why) => refused(word_of(why)),
+    }
+}
+
+pub(crate) fn unit_written_answer(r: UnitWritten) -> Answer
+    requires { written_count r ≤ 11 }
+    ensures { result ≡ unit_written_answer r }
+{
+    match r {
+        UnitWritten::Count(count) => accepted(0, count as u32, 0),
+        UnitWritten::Refused(why) => refused(word_of(why)),
     }
 }

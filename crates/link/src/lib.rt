@@ -4,7 +4,7 @@
 pub mod answer; // the numbers of an answer
 pub mod buffers; // buffer fields
 pub mod conversions; // values and what they convert to
-pub mod host_value; // a host's numbers as values, types and fields
+pub mod given; // a host's numbers as values, types and fields
 pub mod operators; // the operators
 pub mod regions; // field units, and single units of a region
 pub mod tables; // the task table

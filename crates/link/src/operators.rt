@@ -1,19 +1,22 @@
 // The operators. Bytes are lent beside each operand.
 ghost use Rattle.std.specs.Prelude.{◌≡◌};
-ghost use Rattle.bits.specs.Integers.{integer_bits};
-ghost use Rattle.types.specs.Answers.{saying, delivered};
-ghost use Rattle.expression.specs.declared.operator.Operator.TheVariants as O;
-ghost use Rattle.expression.specs.Calls.{operate, operate_one, compare as compareCall, concat, concat_res, mid_place, build_buffer};
-ghost use Rattle.link.specs.Answers.{no_such_kind, host_answer, hosted, host_told, host_part};
+ghost use Rattle.expression.specs.Numbers as E;
+ghost use Rattle.expression.specs.Compare.{compare};
+ghost use Rattle.expression.specs.Mid.{mid_place};
+ghost use Rattle.expression.specs.Concat.{concat, concat_res};
+ghost use Rattle.expression.specs.Build.{build_buffer};
+ghost use Rattle.link.specs.Answers.{no_such_kind, integer_answer, bytes_answer, compare_answer, concat_answer, place_answer};
 ghost use Rattle.link.specs.Values.{with_value, with_both};
 
-use crate::answer::{HostAnswer, host_answer, host_part, no_such_kind, number_answer};
-use crate::host_value::{Given, HostValue, given_of};
+use crate::answer::{
+    Answer, bytes_answer, compare_answer, concat_answer, integer_answer, no_such_kind, place_answer,
+};
+use crate::given::{Given, HostValue, given_of};
 use expression::buffer::def_buffer;
 use expression::compare::compare;
 use expression::concat::{def_concat, def_concat_res};
 use expression::mid::def_mid_place;
-use expression::operator::{
+use expression::number::{
     def_add, def_and, def_decrement, def_increment, def_shift_left, def_shift_right,
 };
 
@@ -24,11 +27,8 @@ pub extern "C" fn aml_add(
     left_bytes: &[u8],
     right: HostValue,
     right_bytes: &[u8],
-) -> HostAnswer
-    ensures { result
-        ≡ with_both left right
-        (λ l r. host_answer (saying (operate integer_bits O.Add l left_bytes.now r right_bytes.now)))
-        no_such_kind }
+) -> Answer
+    ensures { result ≡ with_both left right (λ l r. integer_answer (E.binary E.add l left_bytes.now r right_bytes.now)) no_such_kind }
 {
     let g = given_of(left);
     let Given::Value(l) = g else {
@@ -38,7 +38,7 @@ pub extern "C" fn aml_add(
     let Given::Value(r) = h else {
         return no_such_kind();
     };
-    number_answer(def_add(l, left_bytes, r, right_bytes))
+    integer_answer(def_add(l, left_bytes, r, right_bytes))
 }
 
 // And.
@@ -48,11 +48,8 @@ pub extern "C" fn aml_and(
     left_bytes: &[u8],
     right: HostValue,
     right_bytes: &[u8],
-) -> HostAnswer
-    ensures { result
-        ≡ with_both left right
-        (λ l r. host_answer (saying (operate integer_bits O.And l left_bytes.now r right_bytes.now)))
-        no_such_kind }
+) -> Answer
+    ensures { result ≡ with_both left right (λ l r. integer_answer (E.binary E.and l left_bytes.now r right_bytes.now)) no_such_kind }
 {
     let g = given_of(left);
     let Given::Value(l) = g else {
@@ -62,7 +59,7 @@ pub extern "C" fn aml_and(
     let Given::Value(r) = h else {
         return no_such_kind();
     };
-    number_answer(def_and(l, left_bytes, r, right_bytes))
+    integer_answer(def_and(l, left_bytes, r, right_bytes))
 }
 
 // ShiftLeft.
@@ -72,11 +69,8 @@ pub extern "C" fn aml_shift_left(
     left_bytes: &[u8],
     right: HostValue,
     right_bytes: &[u8],
-) -> HostAnswer
-    ensures { result
-        ≡ with_both left right
-        (λ l r. host_answer (saying (operate integer_bits O.ShiftLeft l left_bytes.now r right_bytes.now)))
-        no_such_kind }
+) -> Answer
+    ensures { result ≡ with_both left right (λ l r. integer_answer (E.binary E.shift_left l left_bytes.now r right_bytes.now)) no_such_kind }
 {
     let g = given_of(left);
     let Given::Value(l) = g else {
@@ -86,7 +80,7 @@ pub extern "C" fn aml_shift_left(
     let Given::Value(r) = h else {
         return no_such_kind();
     };
-    number_answer(def_shift_left(l, left_bytes, r, right_bytes))
+    integer_answer(def_shift_left(l, left_bytes, r, right_bytes))
 }
 
 // ShiftRight.
@@ -96,11 +90,8 @@ pub extern "C" fn aml_shift_right(
     left_bytes: &[u8],
     right: HostValue,
     right_bytes: &[u8],
-) -> HostAnswer
-    ensures { result
-        ≡ with_both left right
-        (λ l r. host_answer (saying (operate integer_bits O.ShiftRight l left_bytes.now r right_bytes.now)))
-        no_such_kind }
+) -> Answer
+    ensures { result ≡ with_both left right (λ l r. integer_answer (E.binary E.shift_right l left_bytes.now r right_bytes.now)) no_such_kind }
 {
     let g = given_of(left);
     let Given::Value(l) = g else {
@@ -110,31 +101,31 @@ pub extern "C" fn aml_shift_right(
     let Given::Value(r) = h else {
         return no_such_kind();
     };
-    number_answer(def_shift_right(l, left_bytes, r, right_bytes))
+    integer_answer(def_shift_right(l, left_bytes, r, right_bytes))
 }
 
 // The number and 1; nothing is stored.
 #[unsafe(no_mangle)]
-pub extern "C" fn aml_increment(given: HostValue, bytes: &[u8]) -> HostAnswer
-    ensures { result ≡ with_value given (λ v. host_answer (saying (operate_one integer_bits O.Increment v bytes.now))) no_such_kind }
+pub extern "C" fn aml_increment(given: HostValue, bytes: &[u8]) -> Answer
+    ensures { result ≡ with_value given (λ v. integer_answer (E.unary E.increment v bytes.now)) no_such_kind }
 {
     let g = given_of(given);
     let Given::Value(v) = g else {
         return no_such_kind();
     };
-    number_answer(def_increment(v, bytes))
+    integer_answer(def_increment(v, bytes))
 }
 
 // The number less 1; nothing is stored.
 #[unsafe(no_mangle)]
-pub extern "C" fn aml_decrement(given: HostValue, bytes: &[u8]) -> HostAnswer
-    ensures { result ≡ with_value given (λ v. host_answer (saying (operate_one integer_bits O.Decrement v bytes.now))) no_such_kind }
+pub extern "C" fn aml_decrement(given: HostValue, bytes: &[u8]) -> Answer
+    ensures { result ≡ with_value given (λ v. integer_answer (E.unary E.decrement v bytes.now)) no_such_kind }
 {
     let g = given_of(given);
     let Given::Value(v) = g else {
         return no_such_kind();
     };
-    number_answer(def_decrement(v, bytes))
+    integer_answer(def_decrement(v, bytes))
 }
 
 // 0, 1, 2 for less, equal, greater.
@@ -144,11 +135,8 @@ pub extern "C" fn aml_compare(
     left_bytes: &[u8],
     right: HostValue,
     right_bytes: &[u8],
-) -> HostAnswer
-    ensures { result
-        ≡ with_both left right
-        (λ l r. host_answer (saying (compareCall integer_bits l left_bytes.now r right_bytes.now)))
-        no_such_kind }
+) -> Answer
+    ensures { result ≡ with_both left right (λ l r. compare_answer (compare l left_bytes.now r right_bytes.now)) no_such_kind }
 {
     let g = given_of(left);
     let Given::Value(l) = g else {
@@ -158,7 +146,7 @@ pub extern "C" fn aml_compare(
     let Given::Value(r) = h else {
         return no_such_kind();
     };
-    host_answer(compare(l, left_bytes, r, right_bytes))
+    compare_answer(compare(l, left_bytes, r, right_bytes))
 }
 
 // Concat, at the front of the output.
@@ -169,12 +157,8 @@ pub extern "C" fn aml_concat(
     right: HostValue,
     right_bytes: &[u8],
     out: &mut [u8],
-) -> HostAnswer
-    ensures { hosted result out.new
-        ≡ with_both left right
-        (λ l r. host_told
-        (delivered (concat integer_bits l left_bytes.now r right_bytes.now) out.old))
-        (hosted no_such_kind out.old) }
+) -> Answer
+    ensures { (result ≡ with_both left right (λ l r. concat_answer (concat l left_bytes.now r right_bytes.now out.old).answer) no_such_kind) × (out.new ≡ with_both left right (λ l r. (concat l left_bytes.now r right_bytes.now out.old).out) out.old) }
 {
     let g = given_of(left);
     let Given::Value(l) = g else {
@@ -184,7 +168,7 @@ pub extern "C" fn aml_concat(
     let Given::Value(r) = h else {
         return no_such_kind();
     };
-    host_answer(def_concat(l, left_bytes, r, right_bytes, out))
+    concat_answer(def_concat(l, left_bytes, r, right_bytes, out))
 }
 
 // ConcatRes, at the front of the output.
@@ -195,12 +179,8 @@ pub extern "C" fn aml_concat_res(
     right: HostValue,
     right_bytes: &[u8],
     out: &mut [u8],
-) -> HostAnswer
-    ensures { hosted result out.new
-        ≡ with_both left right
-        (λ l r. host_told
-        (delivered (concat_res integer_bits l left_bytes.now r right_bytes.now) out.old))
-        (hosted no_such_kind out.old) }
+) -> Answer
+    ensures { (result ≡ with_both left right (λ l r. bytes_answer 3 (concat_res l left_bytes.now r right_bytes.now out.old).answer) no_such_kind) × (out.new ≡ with_both left right (λ l r. (concat_res l left_bytes.now r right_bytes.now out.old).out) out.old) }
 {
     let g = given_of(left);
     let Given::Value(l) = g else {
@@ -210,7 +190,7 @@ pub extern "C" fn aml_concat_res(
     let Given::Value(r) = h else {
         return no_such_kind();
     };
-    host_answer(def_concat_res(l, left_bytes, r, right_bytes, out))
+    bytes_answer(3, def_concat_res(l, left_bytes, r, right_bytes, out))
 }
 
 // Mid. The part is the source's own bytes: the answer's count says how many, its value where they begin.
@@ -222,14 +202,8 @@ pub extern "C" fn aml_mid(
     index_bytes: &[u8],
     length: HostValue,
     length_bytes: &[u8],
-) -> HostAnswer
-    ensures { result
-        ≡ with_value source
-        (λ v. with_both index length
-        (λ i n. host_part
-        (mid_place integer_bits v source_bytes.now i index_bytes.now n length_bytes.now))
-        no_such_kind)
-        no_such_kind }
+) -> Answer
+    ensures { result ≡ with_value source (λ v. with_both index length (λ i n. place_answer source.kind (mid_place v source_bytes.now i index_bytes.now n length_bytes.now)) no_such_kind) no_such_kind }
 {
     let g = given_of(source);
     let Given::Value(v) = g else {
@@ -243,7 +217,8 @@ pub extern "C" fn aml_mid(
     let Given::Value(n) = m else {
         return no_such_kind();
     };
-    host_part(def_mid_place(v, source_bytes, i, index_bytes, n, length_bytes))
+    let placed = def_mid_place(v, source_bytes, i, index_bytes, n, length_bytes);
+    place_answer(source.kind, placed)
 }
 
 // Building a buffer of the size given, at the front of the output.
@@ -253,16 +228,12 @@ pub extern "C" fn aml_buffer(
     bytes: &[u8],
     initial: &[u8],
     out: &mut [u8],
-) -> HostAnswer
-    ensures { hosted result out.new
-        ≡ with_value given
-        (λ v. host_told
-        (delivered (build_buffer integer_bits v bytes.now initial.now out.old) out.old))
-        (hosted no_such_kind out.old) }
+) -> Answer
+    ensures { (result ≡ with_value given (λ v. bytes_answer 3 (build_buffer v bytes.now initial.now out.old).answer) no_such_kind) × (out.new ≡ with_value given (λ v. (build_buffer v bytes.now initial.now out.old).out) out.old) }
 {
     let g = given_of(given);
     let Given::Value(v) = g else {
         return no_such_kind();
     };
-    host_answer(def_buffer(v, bytes, initial, out))
+    bytes_answer(3, def_buffer(v, bytes, initial, out))
 }

@@ -1,15 +1,14 @@
 // Field units of a lent region, and single units of it.
 ghost use Rattle.std.specs.Prelude.{◌≡◌, ◌*◌, min};
 ghost use Rattle.bits.specs.Bits.{get_bits, set_bits};
-ghost use Rattle.bits.specs.Integers.{integer_bits};
 ghost use Rattle.field_unit.specs.Calls.{read_field, write_field};
-ghost use Rattle.value.specs.FieldWrites.{write_value};
-ghost use Rattle.link.specs.Answers.{host_counted, hosted, host_stored, no_such_kind};
+ghost use Rattle.link.specs.Answers.{unit_read_answer, unit_written_answer, no_such_kind};
 ghost use Rattle.link.specs.Fields.{field_of};
 ghost use Rattle.link.specs.Values.{with_value};
+ghost use Rattle.value.specs.FieldWrites.{write_value};
 
-use crate::answer::{HostAnswer, host_counted, no_such_kind};
-use crate::host_value::{Given, HostValue, field_of, given_of};
+use crate::answer::{Answer, no_such_kind, unit_read_answer, unit_written_answer};
+use crate::given::{Given, HostValue, field_of, given_of};
 use field_unit::whole::{read_field, write_field};
 use value::field::{write_value, write_value_self};
 
@@ -21,10 +20,10 @@ pub extern "C" fn aml_read_field(
     flags: u8,
     offset: u64,
     length: u64,
-) -> HostAnswer
-    ensures { result ≡ host_counted (read_field integer_bits (field_of space flags offset length) region.now) }
+) -> Answer
+    ensures { result ≡ unit_read_answer (read_field region.now (field_of space flags offset length)) }
 {
-    host_counted(read_field(region, field_of(space, flags, offset, length)))
+    unit_read_answer(read_field(region, field_of(space, flags, offset, length)))
 }
 
 // Writes the value's lowest bits into a field unit.
@@ -36,11 +35,10 @@ pub extern "C" fn aml_write_field(
     offset: u64,
     length: u64,
     value: u64,
-) -> HostAnswer
-    ensures { hosted result region.new
-        ≡ host_stored (write_field (field_of space flags offset length) value region.old) }
+) -> Answer
+    ensures { (result ≡ unit_written_answer (write_field region.old (field_of space flags offset length) value).answer) × (region.new ≡ (write_field region.old (field_of space flags offset length) value).region) }
 {
-    host_counted(write_field(region, field_of(space, flags, offset, length), value))
+    unit_written_answer(write_field(region, field_of(space, flags, offset, length), value))
 }
 
 // Writes any value that converts to integer into a field unit; its bytes are lent beside it.
@@ -53,18 +51,14 @@ pub extern "C" fn aml_write_value(
     length: u64,
     given: HostValue,
     bytes: &[u8],
-) -> HostAnswer
-    ensures { hosted result region.new
-        ≡ with_value given
-        (λ v. host_stored
-        (write_value integer_bits (field_of space flags offset length) v bytes.now region.old))
-        (hosted no_such_kind region.old) }
+) -> Answer
+    ensures { (result ≡ with_value given (λ v. unit_written_answer (write_value region.old (field_of space flags offset length) v bytes.now).answer) no_such_kind) × (region.new ≡ with_value given (λ v. (write_value region.old (field_of space flags offset length) v bytes.now).region) region.old) }
 {
     let g = given_of(given);
     let Given::Value(v) = g else {
         return no_such_kind();
     };
-    host_counted(write_value(region, field_of(space, flags, offset, length), v, bytes))
+    unit_written_answer(write_value(region, field_of(space, flags, offset, length), v, bytes))
 }
 
 // The same of a value whose bytes are the region itself.
@@ -76,18 +70,14 @@ pub extern "C" fn aml_write_value_self(
     offset: u64,
     length: u64,
     given: HostValue,
-) -> HostAnswer
-    ensures { hosted result region.new
-        ≡ with_value given
-        (λ v. host_stored
-        (write_value integer_bits (field_of space flags offset length) v region.old region.old))
-        (hosted no_such_kind region.old) }
+) -> Answer
+    ensures { (result ≡ with_value given (λ v. unit_written_answer (write_value region.old (field_of space flags offset length) v region.old).answer) no_such_kind) × (region.new ≡ with_value given (λ v. (write_value region.old (field_of space flags offset length) v region.old).region) region.old) }
 {
     let g = given_of(given);
     let Given::Value(v) = g else {
         return no_such_kind();
     };
-    host_counted(write_value_self(region, field_of(space, flags, offset, length), v))
+    unit_written_answer(write_value_self(region, field_of(space, flags, offset, length), v))
 }
 
 // Loads bytes of the region as one number, lowest first: 1, 2, 4 or 8 of them by one access of the machine; more than 8 count as 8, those past the end as 0.

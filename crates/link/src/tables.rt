@@ -4,12 +4,12 @@ ghost use Rattle.std.specs.Prelude.{◌≡◌, cond, ◌<◌, ◌≤◌};
 ghost use Rattle.task.specs.Tasks as T;
 ghost use Rattle.link.specs.Tables as L;
 
-use crate::answer::{HostAnswer, accepted, refused};
-use crate::host_value::{field_of, space_number};
+use crate::answer::{Answer, accepted, outcome_answer, refused, word_of};
+use crate::given::{field_of, space_number};
 use field_unit::access::FieldOp;
-use task::malformed::malformed_by;
+use task::one::{check_call, start_task, step_task};
 use task::table::{StartAnswer, StepAnswer, Table, Task};
-use task::turn::{check_call, start_task, step_task};
+use task::well::malformed_by;
 use types::refusal::Outcome;
 
 // busy, write: 0 or 1. space, flags, offset, length: its field. value: what it writes. made: its loads and stores so far. held: what its loads gave.
@@ -41,7 +41,7 @@ pub struct HostTable {
 #[derive(Drop)]
 pub struct Called {
     pub table: HostTable,
-    pub answer: HostAnswer,
+    pub answer: Answer,
 }
 
 fn op_of(write: u16, space: u8, flags: u8, offset: u64, length: u64, value: u64) -> FieldOp
@@ -54,8 +54,8 @@ fn op_of(write: u16, space: u8, flags: u8, offset: u64, length: u64, value: u64)
     }
 }
 
-fn length_if_valid(busy: u32, write: u16, length: u64) -> u64
-    ensures { result ≡ L.length_if_valid busy write length }
+fn length_said(busy: u32, write: u16, length: u64) -> u64
+    ensures { result ≡ L.length_said busy write length }
 {
     if 1 < busy {
         return 0;
@@ -69,7 +69,7 @@ fn length_if_valid(busy: u32, write: u16, length: u64) -> u64
 fn task_of(k: HostTask) -> Task
     ensures { result ≡ L.task_of k }
 {
-    let length = length_if_valid(k.busy, k.write, k.length);
+    let length = length_said(k.busy, k.write, k.length);
     Task {
         busy: k.busy != 0,
         op: op_of(k.write, k.space, k.flags, k.offset, length, k.value),
@@ -139,33 +139,24 @@ fn fresh_numbers(size: u64) -> HostTable
     }
 }
 
-fn outcome_answer(a: Outcome) -> HostAnswer
-    ensures { result ≡ L.outcome_answer a }
-{
-    match a {
-        Outcome::Done => accepted(0, 0, 0),
-        Outcome::Refused(why) => refused(why),
-    }
-}
-
-fn start_answer(a: StartAnswer) -> HostAnswer
+fn start_answer(a: StartAnswer) -> Answer
     requires { L.start_count a ≤ 11 }
     ensures { result ≡ L.start_answer a }
 {
     match a {
         StartAnswer::Count(n) => accepted(0, n as u32, 0),
-        StartAnswer::Refused(why) => refused(why),
+        StartAnswer::Refused(why) => refused(word_of(why)),
     }
 }
 
-fn step_answer(a: StepAnswer) -> HostAnswer
+fn step_answer(a: StepAnswer) -> Answer
     ensures { result ≡ L.step_answer a }
 {
     match a {
         StepAnswer::More => accepted(0, 1, 0),
         StepAnswer::Done => accepted(0, 0, 0),
         StepAnswer::Value(x) => accepted(1, 0, x),
-        StepAnswer::Refused(why) => refused(why),
+        StepAnswer::Refused(why) => refused(word_of(why)),
     }
 }
 
@@ -244,8 +235,7 @@ pub extern "C" fn aml_start(
 // Makes the task's next load or store on the region. The answer's count is 1 while there are more to come.
 #[unsafe(no_mangle)]
 pub extern "C" fn aml_step(table: HostTable, region: &mut [u8], task: usize) -> Called
-    ensures { (result ≡ L.step_call table region.old task)
-        × (region.new ≡ T.step_region (L.table_of table) region.old task) }
+    ensures { (result ≡ L.step_call table region.old task) × (region.new ≡ T.step_region (L.table_of table) region.old task) }
 {
     let malformed = aml_is_malformed(table);
     let checked = check_call(malformed, table.size, region.len(), task);

@@ -1,13 +1,13 @@
 // Document 01's script program: reads standard input to its end, answers its jobs, writes the answers to standard output.
-// 65,537 bytes are enough to know that an input is too long; the output has room for any answers, so each job is answered once.
+// 65,537 bytes are enough to know that an input is too long; 589,860 are room for any output (script/proofs/Sizes, never_short).
 use libc::{STDIN_FILENO, STDOUT_FILENO};
-use types::answer::Answer;
+use value::convert::LengthAnswer;
 
 fn main() {
     let mut input = [0u8; 65537];
     let n = io::read_full(STDIN_FILENO, &mut input);
-    let mut out = [0u8; script::MOST_OUTPUT];
-    if let Answer::String(m) = script::script(&input[..n], &mut out) {
+    let mut out = [0u8; 589860];
+    if let LengthAnswer::Length(m) = script::script(&input[..n], &mut out) {
         write_first(&out, m);
     }
 }

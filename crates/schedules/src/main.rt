@@ -10,7 +10,8 @@ use crate::ops::{Place, on_bytes, on_one_byte};
 use crate::run::Ops;
 use crate::words::{Counts, all, none, sum};
 use field_unit::access::FieldOp;
-use field_unit::next::{CountAnswer, count_accesses};
+use field_unit::next::count_accesses;
+use field_unit::whole::UnitWritten;
 use libc::STDOUT_FILENO;
 use std::num::wrapping_add_u64;
 
@@ -18,8 +19,8 @@ use std::num::wrapping_add_u64;
 fn calls(op: FieldOp) -> u64 {
     let counted = count_accesses(op, 12);
     match counted {
-        CountAnswer::Count(n) => wrapping_add_u64(n, 1),
-        CountAnswer::Refused(_) => 0,
+        UnitWritten::Count(n) => wrapping_add_u64(n, 1),
+        UnitWritten::Refused(_) => 0,
     }
 }
 

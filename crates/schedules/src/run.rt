@@ -3,10 +3,9 @@ ghost use Rattle.std.specs.Prelude.{◌<◌};
 
 use crate::ops::may_be_together;
 use field_unit::access::FieldOp;
-use field_unit::whole::{read_field, write_field};
+use field_unit::whole::{UnitRead, read_field, write_field};
 use std::num::wrapping_add_u64;
 use task::table::{StartAnswer, StepAnswer, Table};
-use types::answer::Answer;
 
 // The operations of tasks 0 to 2, and how many calls each takes: its start and its accesses; 0 for a task without one.
 #[derive(Drop)]
@@ -165,11 +164,10 @@ fn whole(op: FieldOp, region: &mut [u8]) -> u64 {
         return 0;
     }
     let read = read_field(region, field);
-    let answer = read.answer;
-    let Answer::Integer(value) = answer else {
-        return 0;
-    };
-    value
+    match read {
+        UnitRead::Value { value, count: _ } => value,
+        UnitRead::Refused(_) => 0,
+    }
 }
 
 // The operation that ended as number k, run whole. Answers whether it gives what it gave in the run.

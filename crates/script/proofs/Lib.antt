@@ -1,11 +1,8 @@
 pub mod Jobs
-pub mod Lengths
-pub mod Meant
-pub mod Ops
-pub mod Parts
+pub mod Joining
+pub mod Lines
 pub mod Puts
 pub mod Reading
 pub mod Running
-pub mod Showing
 pub mod Sizes
 pub mod Whole

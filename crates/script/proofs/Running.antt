@@ -1,105 +1,173 @@
--- The run: each job uses some of the input, so any count that reaches is as good as another; what is written and the answers to what is left are
--- together the whole.
+-- The run: each job uses some of the input, so any count that reaches is as good as another; what is written and what is left are together the whole.
 -- Assumes nothing.
 use mathlib.Core.Path.{◌≡◌, refl, sym, ap, ◌∙◌}
+use mathlib.Core.Bool.{Bool, true, false}
 use mathlib.Core.List.{List, [], ◌∷◌, ◌++◌}
 use Prim.Native.Nat.{ℕ, zero, suc, ◌+◌, ◌-◌, ◌≤◌, ◌<◌}
 use native.Mathlib.Omega.{arith}
-use lib.ListN.{length, take, drop, length-drop, drop_of_length-le}
+use borrow.Author.Tests.{lt-ltb, le-ltb}
+use lib.Dec.{ltb}
+use lib.ListN.{length, take, drop, length-append, length-drop, drop_of_length-le}
 use lib.Seq.{drop-drop}
-use Rattle.text.specs.Written.{over}
-use Rattle.text.proofs.Over.{over_none, over_length, over_past, over_front}
-use Rattle.types.specs.Answers.{text, said, told}
 use Rattle.types.specs.declared.refusal.Refusal.TheVariants as R
-use Rattle.types.specs.declared.answer.Answer.TheVariants as A
-use Rattle.types.proofs.Saying.{delivers, delivers-short}
-use Rattle.script.specs.Runs.{job_of, answers_to, output, script}
-use Rattle.script.specs.Runs as Runs
+use Rattle.types.specs.declared.value.AmlValue.{AmlValue}
+use Rattle.value.specs.Conversions.{given, into}
+use Rattle.value.specs.declared.convert.LengthAnswer.TheVariants as LA
+use Rattle.value.proofs.Giving.{giving_short, giving_these}
+use Rattle.text.specs.Written.{over}
+use Rattle.text.proofs.Over.{over_append, over_none, over_past, over_front}
+use Rattle.script.specs.Operands.{Operand, operand, unused, bad, operand_of}
+use Rattle.script.specs.Ops.{ops, row_of}
+use Rattle.script.specs.Runs.{Named, named, no, next, op_name, a_name, b_name, c_name, Read, value, wrong, fill, fill_named, operand_line, malformed, with_c, with_b, with_a, with_op, by_name, op_line, job_of, answers_to, output, script}
 use Rattle.script.specs.Steps.{Put, Stepped}
-use Rattle.script.proofs.Puts.{put_then}
-use Rattle.script.proofs.Reading.{rest_of}
-use Rattle.script.proofs.Sizes.{shorter, none_left, output_most}
+use Rattle.script.specs.declared.op.Op.{Op}
+use Rattle.script.specs.declared.op.OpAnswer.{OpAnswer}
+use Rattle.script.specs.declared.op.OpAnswer.TheVariants as OpA
+use Rattle.script.proofs.Lines.{rest_of_lem, rest_of, shorter_next}
+
+-- ---- what is left after a job is shorter
+
+abbrev read_rest : Read → List ℕ
+read_rest (value v l rest) = rest
+read_rest wrong = []
+
+shorter_fill : (u : Bool) (o : Operand) (rest : List ℕ) → length (read_rest (fill u o rest)) ≤ length rest
+shorter_fill true (operand v l) rest = omega arith
+shorter_fill true unused rest = omega arith
+shorter_fill true bad rest = omega arith
+shorter_fill false (operand v l) rest = omega arith
+shorter_fill false unused rest = omega arith
+shorter_fill false bad rest = omega arith
+
+shorter_filled : (u : Bool) (x : Named) → length (read_rest (fill_named u x)) ≤ length (rest_of x)
+shorter_filled u (named l rest) = shorter_fill u (operand_of l) rest
+shorter_filled u no = omega arith
+
+shorter_operand : (name : List ℕ) (u : Bool) (s : List ℕ) → length (read_rest (operand_line name u s)) ≤ length s
+unfolding operand_line
+shorter_operand name u s = omega (arith, shorter_filled u (next name s), shorter_next name s)
+
+shorter_c : (op : Op) (a : AmlValue) (s : List ℕ) (b : AmlValue) (t : List ℕ) (r : Read) → length (with_c op a s b t r).rest ≤ length (read_rest r)
+shorter_c op a s b t (value c u rest) = omega arith
+shorter_c op a s b t wrong = omega arith
+
+shorter_b : (op : Op) (n : ℕ) (a : AmlValue) (s : List ℕ) (r : Read) → length (with_b op n a s r).rest ≤ length (read_rest r)
+shorter_b op n a s (value b t rest) = omega (arith, shorter_c op a s b t (operand_line c_name (ltb 2 n) rest), shorter_operand c_name (ltb 2 n) rest)
+shorter_b op n a s wrong = omega arith
+
+shorter_a : (op : Op) (n : ℕ) (r : Read) → length (with_a op n r).rest ≤ length (read_rest r)
+shorter_a op n (value a s rest) = omega (arith, shorter_b op n a s (operand_line b_name (ltb 1 n) rest), shorter_operand b_name (ltb 1 n) rest)
+shorter_a op n wrong = omega arith
+
+shorter_op : (op : Op) (n : ℕ) (s : List ℕ) → length (with_op op n s).rest ≤ length s
+unfolding with_op
+shorter_op op n s = omega (arith, shorter_a op n (operand_line a_name (ltb 0 n) s), shorter_operand a_name (ltb 0 n) s)
+
+shorter_name : (x : OpAnswer) (rest : List ℕ) → length (by_name x rest).rest ≤ length rest
+shorter_name (OpA.Is op n) rest = shorter_op op n rest
+shorter_name OpA.Unknown rest = omega arith
+
+shorter_line : (x : Named) → length (op_line x).rest ≤ length (rest_of x)
+shorter_line (named l rest) = shorter_name (row_of ops l) rest
+shorter_line no = omega arith
+
+pub shorter : (s : List ℕ) → length (job_of s).rest ≤ length s - 1
+unfolding job_of
+shorter s = omega (arith, shorter_line (next op_name s), shorter_next op_name s)
 
 -- ---- job after job
 
 abbrev pub answers : List ℕ → List ℕ
 answers s = answers_to (length s) s
 
+pub none_left : (n : ℕ) → answers_to n [] ≡ []
+unfolding answers_to
+none_left zero = refl
+none_left (suc n) = refl
+
 no_jobs : (m : ℕ) (s : List ℕ) → length s ≤ 0 → answers_to m s ≡ []
 no_jobs m [] h = none_left m
+no_jobs m (c ∷ s) h = absurd (omega arith)
 
 -- a count that reaches is as good as another
-same_answers : (n m : ℕ) (s : List ℕ) → length s ≤ n → length s ≤ m → answers_to n s ≡ answers_to m s
+one_more : (n m : ℕ) → ((t : List ℕ) → length t ≤ n → length t ≤ m → answers_to n t ≡ answers_to m t)
+    → (s : List ℕ) → length s ≤ suc n → length s ≤ suc m → answers_to (suc n) s ≡ answers_to (suc m) s
 unfolding answers_to
+one_more n m f [] h k = refl
+one_more n m f (c ∷ s) h k =
+    let l = shorter (c ∷ s) in
+    ap (λ (x : List ℕ). (job_of (c ∷ s)).text ++ x) (f (job_of (c ∷ s)).rest (omega arith) (omega arith))
+
+same_answers : (n m : ℕ) (s : List ℕ) → length s ≤ n → length s ≤ m → answers_to n s ≡ answers_to m s
 same_answers zero m s h k = no_jobs zero s h ∙ sym (no_jobs m s h)
 same_answers (suc n) zero s h k = no_jobs (suc n) s k ∙ sym (no_jobs zero s k)
-same_answers (suc n) (suc m) [] h k = refl
-same_answers (suc n) (suc m) (c ∷ s) h k =
-    let t = Runs.told (job_of (c ∷ s)) in
-    let l = shorter (c ∷ s) in
-    ap (λ (x : List ℕ). t.what ++ x) (same_answers n m t.rest (omega arith) (omega arith))
+same_answers (suc n) (suc m) s h k = one_more n m (same_answers n m) s h k
 
-answers_more : (s : List ℕ) → 0 < length s → answers s ≡ (Runs.told (job_of s)).what ++ answers (Runs.told (job_of s)).rest
+answers_more : (s : List ℕ) → 0 < length s → answers s ≡ (job_of s).text ++ answers (job_of s).rest
 unfolding answers_to
+answers_more [] h = absurd (omega arith)
 answers_more (c ∷ s) h =
-    let t = Runs.told (job_of (c ∷ s)) in
     let l = shorter (c ∷ s) in
-    ap (λ (x : List ℕ). t.what ++ x) (same_answers (length s) (length t.rest) t.rest (omega arith) (omega arith))
+    ap (λ (x : List ℕ). (job_of (c ∷ s)).text ++ x) (same_answers (length s) (length (job_of (c ∷ s)).rest) (job_of (c ∷ s)).rest (omega arith) (omega arith))
 
--- from and at are the places in the input and in the output: who puts the answers to what is left there has put the whole
-pub record Left (input out₀ out : List ℕ) (from at : ℕ) : Type 0 where
-  pub whole : (after : List ℕ) (next : ℕ) → Put out at (answers (drop from input)) after next → Put out₀ 0 (answers input) after next
+-- from and at are the places in the input and in the output: what is written so far and the answers to what is left are together the whole
+abbrev pub Left : List ℕ → List ℕ → List ℕ → ℕ → ℕ → Type 0
+Left input out₀ out from at =
+    (over out at (answers (drop from input)) ≡ over out₀ 0 (answers input)) × (at + length (answers (drop from input)) ≡ length (answers input))
 
 pub left_begin : (input out : List ℕ) → Left input out out 0 0
-left_begin input out = record { whole = λ after next p. p }
+left_begin input out = (refl, omega arith)
 
 module _ (input out₀ out : List ℕ) (from at : ℕ) (l : Left input out₀ out from at) where
-  pub left_step : from < length input → {mid : List ℕ} {used next : ℕ}
-      → Stepped (take (length input - from) (drop from input)) out at (Runs.told (job_of (take (length input - from) (drop from input)))) mid used next
-      → Left input out₀ mid (from + used) next
-  left_step h {mid} {used} {next} w =
-      let v : Stepped (drop from input) out at (Runs.told (job_of (drop from input))) mid used next = rw (rest_of input from) at w in
-      let t = Runs.told (job_of (drop from input)) in
-      let r : t.rest ≡ drop (from + used) input = sym v.rest ∙ drop-drop used from input in
-      let m : answers (drop from input) ≡ t.what ++ answers (drop (from + used) input)
-      = answers_more (drop from input) (omega (arith, length-drop from input)) ∙ ap (λ (x : List ℕ). t.what ++ answers x) r in
-      record { whole = λ after end p. l.whole after end (rw m (put_then v.put p)) }
+  pub left_step : from < length input → (after : List ℕ) (used next : ℕ)
+      → Stepped (take (length input - from) (drop from input)) out at (job_of (take (length input - from) (drop from input))) after used next
+      → Left input out₀ after (from + used) next
+  left_step h after used next w =
+      let v : Stepped (drop from input) out at (job_of (drop from input)) after used next = rw (rest_of_lem input from) at w in
+      let t = (job_of (drop from input)).text in
+      let r : (job_of (drop from input)).rest ≡ drop (from + used) input = sym v.rest ∙ drop-drop used from input in
+      let m : answers (drop from input) ≡ t ++ answers (drop (from + used) input)
+      = answers_more (drop from input) (omega (arith, length-drop from input)) ∙ ap (λ (x : List ℕ). t ++ answers x) r in
+      let p = v.put.place in (
+        rw (v.put.bytes, p) (sym (over_append out at t (answers (drop (from + used) input))) ∙ ap (over out at) (sym m) ∙ l.0),
+        omega (arith, p, l.1, ap length m, length-append t (answers (drop (from + used) input))),
+      )
 
   pub left_end : length input ≤ from → Put out₀ 0 (answers input) out at
   left_end h =
       let n : answers (drop from input) ≡ [] = ap answers (drop_of_length-le input h) ∙ none_left 0 in
-      l.whole out at (rw n (record { bytes = sym (over_none out at); place = omega arith }))
-
-  pub left-length : length out ≡ length out₀
-  left-length =
-      let a = answers (drop from input) in
-      let p = l.whole (over out at a) (at + length a) (record { bytes = refl; place = refl }) in
-      sym (over_length out at a) ∙ ap length p.bytes ∙ over_length out₀ 0 (answers input)
+      record {
+        bytes = sym (over_none out at) ∙ ap (over out at) (sym n) ∙ l.0;
+        place = omega (arith, l.1, ap length n);
+      }
 
 -- ---- the whole
-module _ (s : List ℕ) where
-  abbrev Done : List ℕ → Type 0
-  Done out = (after : List ℕ) (n : ℕ) → Put out 0 (output s) after n → told (said (A.String n)) after ≡ script s out
+pub output_long : (s : List ℕ) → 65536 < length s → output s ≡ malformed.text
+unfolding output
+output_long s h = rw (lt-ltb 65536 (length s) h)
 
-  done : (out : List ℕ) → length (output s) ≤ length out → Done out
+pub output_short : (s : List ℕ) → length s ≤ 65536 → output s ≡ answers_to (length s) s
+unfolding output
+output_short s h = rw (le-ltb 65536 (length s) h)
+
+-- the answers are counted with nowhere to write them, and then written
+module _ (s out after₀ : List ℕ) (n : ℕ) (p : Put [] 0 (output s) after₀ n) where
+  counted : n ≡ length (output s)
+  counted = omega (arith, p.place)
+
+  kept : after₀ ++ out ≡ out
+  kept = ap (λ (x : List ℕ). x ++ out) (p.bytes ∙ over_past [] 0 (output s) (omega arith))
+
+  pub script_short : length (after₀ ++ out) < n → given (LA.Refused R.OutputTooShort) (after₀ ++ out) ≡ script s out
   unfolding script
-  done out f after n p =
-      let k : n ≡ length (output s) = omega (arith, p.place) in
-      rw (k, p.bytes, over_front out (output s) f) (delivers (text (output s)) out refl f)
+  script_short h =
+      let l : length (after₀ ++ out) ≡ length out = ap length kept in
+      rw kept (sym (giving_short (output s) out (omega (arith, counted, l))))
 
-  -- an output that holds any answers
-  pub script-once : (out : List ℕ) → 589860 ≤ length out → Done out
-  script-once out f = done out (omega (arith, output_most s))
-
-  -- any other: the answers are counted with nowhere to write them, and then written
-  module _ (out none : List ℕ) (n : ℕ) (p : Put [] 0 (output s) none n) where
-    kept : none ++ out ≡ out
-    kept = ap (λ (x : List ℕ). x ++ out) (p.bytes ∙ over_past [] 0 (output s) (omega arith))
-
-    pub script-short : length (none ++ out) < n → told (said (A.Refused R.OutputTooShort)) (none ++ out) ≡ script s out
-    unfolding script
-    script-short h = rw kept (delivers-short (text (output s)) out refl (omega (arith, p.place, ap length kept)))
-
-    pub script-counted : n ≤ length (none ++ out) → (after : List ℕ) (m : ℕ) → Put (none ++ out) 0 (output s) after m
-        → told (said (A.String m)) after ≡ script s out
-    script-counted h after m q = done out (omega (arith, p.place, ap length kept)) after m (rw kept at q)
+  pub script_done : n ≤ length (after₀ ++ out) → (after : List ℕ) (m : ℕ) → Put (after₀ ++ out) 0 (output s) after m → given (LA.Length n) after ≡ script s out
+  unfolding script
+  script_done h after m q =
+      let l : length (after₀ ++ out) ≡ length out = ap length kept in
+      let f : length (output s) ≤ length out = omega (arith, counted, l) in
+      let e : after ≡ into (output s) out = q.bytes ∙ ap (λ (x : List ℕ). over x 0 (output s)) kept ∙ over_front out (output s) f in
+      rw (counted, e) (sym (giving_these (output s) out f))

@@ -1,211 +1,247 @@
 -- How long an output is: a job's answer is at most nine times as long as the job, and the answer to a malformed one has at most 36 bytes.
 -- So 589,860 bytes are room for the output of any input.
 -- Assumes nothing.
-use mathlib.Core.Path.{◌≡◌, refl, sym, ap}
+use mathlib.Core.Path.{◌≡◌, refl, ap, ◌∙◌}
 use mathlib.Core.Bool.{Bool, true, false, cond}
 use mathlib.Core.List.{List, [], ◌∷◌, ◌++◌}
 use mathlib.Core.Logic.{◌⊎◌, inl, inr, ⊎_elim}
-use Prim.Native.Nat.{ℕ, zero, suc, ◌+◌, ◌-◌, ◌*◌, ◌≤◌, ◌<◌}
+use Prim.Native.Nat.{ℕ, zero, suc, ◌+◌, ◌*◌, ◌≤◌}
 use native.Mathlib.Omega.{arith}
-use borrow.Author.Rules.{zero≤}
-use borrow.Author.Tests.{lt-ltb, le-ltb}
-use lib.Dec.{ltb, leb}
+use lib.Dec.{eqb, ltb, leb}
 use lib.ListN.{length, drop, length-append, length-drop}
 use Rattle.bits.proofs.Laws.{lt_cases}
-use Rattle.text.specs.Quoted.{ascii}
-use Rattle.text.specs.Lines.{Line, line, missing, line_of, begins, named, misnamed, named_by}
+use Rattle.types.specs.declared.refusal.Refusal.TheVariants as R
+use Rattle.types.specs.declared.value.AmlValue.{AmlValue}
+use Rattle.types.specs.declared.value.AmlValue.TheVariants as Val
+use Rattle.text.specs.Lines.{Line, line, missing, line_of, begins}
 use Rattle.text.specs.Pairs.{Pairs, pairs, none, pairs_of, within}
-use Rattle.text.specs.Written.{decimal_text}
+use Rattle.text.specs.Texts.{number_of}
+use Rattle.text.specs.Written.{decimal_text, hex_text}
 use Rattle.text.specs.declared.Number.{Number}
 use Rattle.text.specs.declared.Number.TheVariants as N
 use Rattle.text.proofs.Decimals.{decimal_most}
 use Rattle.text.proofs.FirstLines.{line_length, begins_length}
 use Rattle.text.proofs.HexPairs.{pairs_length}
 use Rattle.text.proofs.Hexes.{hex_length}
-use Rattle.types.specs.Limits.{most_bytes}
-use Rattle.types.specs.Answers.{Answered, given, refused, Bare, nothing, truth, number, itself, less, equal, greater, status, bare, text, bytes, Meaning, saying, accepted, said, into}
-use Rattle.types.specs.Answers as Answers
-use Rattle.types.specs.declared.refusal.Refusal.{Refusal}
-use Rattle.types.specs.declared.refusal.Refusal.TheVariants as R
-use Rattle.types.specs.declared.value.AmlValue.{AmlValue}
-use Rattle.types.proofs.Saying.{delivers}
-use Rattle.script.specs.Operands.{Operand, operand, Text, is, unused, bad, of_number, of_pairs, most, text_of}
-use Rattle.script.specs.Ops.{used_of, ops, op_named, meaning_of, shown_bare, shown, line_feed, answer_lines}
-use Rattle.script.specs.Runs.{malformed, Taken, taken, named_text, line_named, filled, known, operand_line, with_op, job_of, told, answers_to, output, script}
+use Rattle.value.specs.Conversions as Conv
+use Rattle.value.specs.declared.convert.IntegerAnswer.{IntegerAnswer}
+use Rattle.value.specs.declared.convert.IntegerAnswer.TheVariants as IA
+use Rattle.value.specs.declared.convert.LengthAnswer.TheVariants as LA
+use Rattle.value.proofs.Giving.{giving_these}
+use Rattle.expression.specs.Compare.{compare}
+use Rattle.expression.specs.declared.compare.CompareAnswer.{CompareAnswer}
+use Rattle.expression.specs.declared.compare.CompareAnswer.TheVariants as C
+use Rattle.expression.specs.Mid.{mid, mid_part}
+use Rattle.expression.specs.Concat.{Joined, a_buffer, a_string, refused, joined, join_resources}
+use Rattle.script.specs.Operands.{Operand, operand, unused, bad, number_operand, bytes_operand, most, alone, operand_of}
+use Rattle.script.specs.Ops.{Shown, refused_by, of_integer, of_compare, of_bytes, of_joined, buffer_letter, letter_of, number_op, answer_of, ops, row_of}
+use Rattle.script.specs.Runs.{Named, named, no, named_line, next, op_name, a_name, b_name, c_name, Read, value, wrong, fill, fill_named, operand_line, status_text, value_text, status_line, answer_lines, Told, malformed, with_c, with_b, with_a, with_op, by_name, op_line, job_of, answers_to, output, script}
 use Rattle.script.specs.declared.op.Op.{Op}
-use Rattle.script.proofs.Lengths.{Holds, holds, void, holds_then, holds_any, Most, op-most}
-
--- ---- what a line takes of a text of n characters: what is behind its name, and k more
-
-abbrev Takes : ℕ → ℕ → Taken (List ℕ) → Type 0
-Takes n k l = length l.what + k + length l.rest ≤ n
-
-line_size : (name s : List ℕ) → Holds (Takes (length s) (length name + 1)) (line_named name s)
-unfolding line_named
-line_size name s = of (line_of s) refl
-  where
-    by : (l rest : List ℕ) → line_of s ≡ line l rest → (b : Bool) → begins name l ≡ b
-        → Holds (Takes (length s) (length name + 1)) (named_text (cond b (named (drop (length name) l) rest) misnamed))
-    by l rest e true f =
-        let h : Takes (length s) (length name + 1) (taken (drop (length name) l) rest)
-        = omega (arith, line_length s l rest e, length-drop (length name) l, begins_length name l f) in
-        holds h
-    by l rest e false f = void
-
-    of : (x : Line) → line_of s ≡ x → Holds (Takes (length s) (length name + 1)) (named_text (named_by name x))
-    of missing e = void
-    of (line l rest) e = by l rest e (begins name l) refl
+use Rattle.script.specs.declared.op.Op.TheVariants as O
+use Rattle.script.specs.declared.op.OpAnswer.{OpAnswer}
+use Rattle.script.specs.declared.op.OpAnswer.TheVariants as OA
+use Rattle.script.proofs.Joining.{joined_bytes, joined_most, ended_most, mid_most}
+use Rattle.script.proofs.Running.{none_left, output_long, output_short}
 
 -- ---- an operand has no more bytes than half its text
 
-abbrev bytes_of : Text → ℕ
-bytes_of (is o) = length o.bytes
-bytes_of unused = 0
-bytes_of bad = 0
+abbrev operand_bytes : Operand → ℕ
+operand_bytes (operand v l) = length l
+operand_bytes unused = 0
+operand_bytes bad = 0
 
-either : (b : Bool) (x y : Text) (n : ℕ) → 2 * bytes_of x ≤ n → 2 * bytes_of y ≤ n → 2 * bytes_of (cond b x y) ≤ n
+either : (b : Bool) (x y : Operand) (n : ℕ) → 2 * operand_bytes x ≤ n → 2 * operand_bytes y ≤ n → 2 * operand_bytes (cond b x y) ≤ n
 either true x y n h k = h
 either false x y n h k = k
 
-pairs_size : (v : AmlValue) (l : List ℕ) → 2 * bytes_of (of_pairs v (within most (pairs_of (drop 1 l)))) ≤ length l
+alone_size : (l : List ℕ) (o : Operand) (n : ℕ) → 2 * operand_bytes o ≤ n → 2 * operand_bytes (alone l o) ≤ n
+alone_size [] o n h = h
+alone_size (c ∷ l) o n h = omega arith
+
+within_size : (v : AmlValue) (b : List ℕ) (c : Bool) → operand_bytes (bytes_operand v (cond c (pairs b) none)) ≤ length b
+within_size v b true = omega arith
+within_size v b false = omega arith
+
+pairs_size : (v : AmlValue) (l : List ℕ) (p : Pairs) → pairs_of l ≡ p → 2 * operand_bytes (bytes_operand v (within most p)) ≤ length l
 unfolding within
-pairs_size v l = of (pairs_of (drop 1 l)) refl
-  where
-    by : (b : List ℕ) (c : Bool) → bytes_of (of_pairs v (cond c (pairs b) none)) ≤ length b
-    by b true = omega arith
-    by b false = omega arith
+pairs_size v l (pairs b) e = omega (arith, within_size v b (leb (length b) most), pairs_length l b e)
+pairs_size v l none e = omega arith
 
-    of : (p : Pairs) → pairs_of (drop 1 l) ≡ p → 2 * bytes_of (of_pairs v (within most p)) ≤ length l
-    of (pairs b) e = omega (arith, by b (leb (length b) most), pairs_length (drop 1 l) b e, length-drop 1 l)
-    of none e = omega arith
-
-number_size : (m : Number) (n : ℕ) → 2 * bytes_of (of_number m) ≤ n
+number_size : (m : Number) (n : ℕ) → 2 * operand_bytes (number_operand m) ≤ n
 number_size (N.Is x) n = omega arith
 number_size N.Bad n = omega arith
 
-text_size : (l : List ℕ) → 2 * bytes_of (text_of l) ≤ length l
-unfolding text_of
-text_size l = search (either, pairs_size, number_size, zero≤) depth 8
+operand_size : (t : List ℕ) → 2 * operand_bytes (operand_of t) ≤ length t
+unfolding operand_of
+operand_size [] = omega arith
+operand_size (c ∷ l) =
+    let x = pairs_size Val.Buffer l (pairs_of l) refl in
+    let s = pairs_size Val.String l (pairs_of l) refl in
+    let n = length (c ∷ l) in
+    either (eqb c 45) _ _ n (alone_size l unused n (omega arith))
+    (either (eqb c 116) _ _ n (alone_size l (operand (Val.Boolean true) []) n (omega arith))
+    (either (eqb c 102) _ _ n (alone_size l (operand (Val.Boolean false) []) n (omega arith))
+    (either (eqb c 120) _ _ n (omega (arith, x)) (either (eqb c 115) _ _ n (omega (arith, s)) (number_size (number_of 10 (c ∷ l)) n)))))
 
-filled_size : (used : Bool) (t : Text) (n : ℕ) → 2 * bytes_of t ≤ n → Holds (λ o. 2 * length o.bytes ≤ n) (filled used t)
-filled_size true (is o) n h = holds h
-filled_size true unused n h = void
-filled_size true bad n h = void
-filled_size false (is o) n h = void
-filled_size false unused n h = holds h
-filled_size false bad n h = void
+-- ---- what a line takes of the text
+
+abbrev pieces : ℕ → Named → ℕ
+pieces k (named t rest) = length t + k + length rest
+pieces k no = 0
+
+named_size : (name l rest : List ℕ) (n : ℕ) (b : Bool) → begins name l ≡ b → n ≡ length l + 1 + length rest
+    → pieces (length name + 1) (cond b (named (drop (length name) l) rest) no) ≤ n
+named_size name l rest n true e h = omega (arith, length-drop (length name) l, begins_length name l e)
+named_size name l rest n false e h = omega arith
+
+line_size : (name s : List ℕ) (x : Line) → line_of s ≡ x → pieces (length name + 1) (named_line name x) ≤ length s
+line_size name s missing e = omega arith
+line_size name s (line l rest) e = named_size name l rest (length s) (begins name l) refl (line_length s l rest e)
+
+next_size : (name s : List ℕ) → pieces (length name + 1) (next name s) ≤ length s
+next_size name s = line_size name s (line_of s) refl
 
 -- an operand's line takes two characters for each byte, and three
-operand_size : (name : List ℕ) (used : Bool) (s : List ℕ) → length name ≡ 2
-    → Holds (λ o. 2 * length o.what.bytes + 3 + length o.rest ≤ length s) (operand_line name used s)
+abbrev taken : Read → ℕ
+taken (value v l rest) = 2 * length l + 3 + length rest
+taken wrong = 0
+
+fill_size : (u : Bool) (o : Operand) (rest : List ℕ) (n : ℕ) → 2 * operand_bytes o + 3 + length rest ≤ n → taken (fill u o rest) ≤ n
+fill_size true (operand v l) rest n h = h
+fill_size true unused rest n h = omega arith
+fill_size true bad rest n h = omega arith
+fill_size false (operand v l) rest n h = omega arith
+fill_size false unused rest n h = omega arith
+fill_size false bad rest n h = omega arith
+
+filled_size : (u : Bool) (x : Named) → taken (fill_named u x) ≤ pieces 3 x
+filled_size u (named t rest) = fill_size u (operand_of t) rest _ (omega (arith, operand_size t))
+filled_size u no = omega arith
+
+operand_line_size : (name : List ℕ) (u : Bool) (s : List ℕ) → length name ≡ 2 → taken (operand_line name u s) ≤ length s
 unfolding operand_line
-operand_size name used s e =
-    holds_then (line_size name s)
-    (λ l h. holds_then (filled_size used (text_of l.what) (length l.what) (text_size l.what)) (λ o k. holds (omega arith)))
+operand_line_size name u s e =
+    let n : pieces (2 + 1) (next name s) ≤ length s = rw e at (next_size name s) in
+    omega (arith, filled_size u (next name s), n)
 
 -- ---- an answer
 
-bare_size : (v : Bare) → length (shown_bare v) ≤ 20
-unfolding ascii
-bare_size (number n) = decimal_most n
-bare_size nothing = omega arith
-bare_size (truth b) = omega arith
-bare_size itself = omega arith
-bare_size less = omega arith
-bare_size equal = omega arith
-bare_size greater = omega arith
-bare_size (status s) = omega arith
-
-shown_size : (m : Meaning) (n : ℕ) → Most n m → 10 ≤ n → length (shown m) ≤ 1 + 2 * n
-unfolding ascii
-shown_size (given (bare v)) n h k = omega (arith, bare_size v)
-shown_size (given (text l)) n (holds h) k = omega (arith, hex_length l)
-shown_size (given (bytes l)) n (holds h) k = omega (arith, hex_length l)
-shown_size (refused r) n h k = omega arith
-
-lines_size : (m : Meaning) → length (answer_lines m) ≤ 35 + length (shown m)
-unfolding answer_lines ascii
-lines_size m =
-    let d = decimal_text (saying m).no in
+lines_size : (a : Shown) → length (answer_lines a) ≤ 35 + length a.text
+unfolding answer_lines status_line
+lines_size a =
+    let d = decimal_text a.status in
     omega
-    (arith, decimal_most (saying m).no, length-append d (line_feed ++ (ascii "value=" ++ (shown m ++ line_feed))), length-append (shown m) line_feed)
+    (arith, decimal_most a.status, length-append (status_text ++ (d ++ value_text)) (a.text ++ (10 ∷ [])), length-append status_text (d ++ value_text), length-append d value_text, length-append a.text (10 ∷ []))
 
-refused_size : (r : Refusal) → length (answer_lines (refused r)) ≤ 36
-unfolding ascii
-refused_size r = lines_size (refused r)
+integer_size : (x : IntegerAnswer) → length (of_integer x).text ≤ 20
+integer_size (IA.Integer n) = decimal_most n
+integer_size (IA.Refused r) = omega arith
 
--- ---- a job of at most n bytes
-module _ (n : ℕ) where
-  abbrev Small : Taken Meaning → Type 0
-  Small j = (length (answer_lines j.what) + 9 * length j.rest ≤ 9 * n) × (length j.rest < n)
+order_size : (x : CompareAnswer) → length (of_compare x).text ≤ 1
+order_size C.Less = omega arith
+order_size C.Equal = omega arith
+order_size C.Greater = omega arith
+order_size (C.Refused r) = omega arith
 
-  answer_small : (op : Op) (a b c : Operand) (rest : List ℕ) → 13 + 2 * length a.bytes + 2 * length b.bytes + length rest ≤ n
-      → Small (taken (meaning_of op a b c) rest)
-  answer_small op a b c rest h =
-      let m = meaning_of op a b c in
-      let k = op-most (18 + length a.bytes) (18 + length b.bytes) (omega arith) (omega arith) op a b c (omega arith) (omega arith) in
-      (omega (arith, lines_size m, shown_size m _ k (omega arith)), omega arith)
+bytes_size : (letter : List ℕ) (x : Conv.Bytes) → length letter ≤ 1 → length (of_bytes letter x).text ≤ 1 + 2 * length (mid_part x)
+bytes_size letter (Conv.these l) h = omega (arith, length-append letter (hex_text l), hex_length l)
+bytes_size letter (Conv.none r) h = omega arith
 
-  operands_small : (op : Op) (s : List ℕ) → 4 + length s ≤ n → Holds Small (with_op op s)
-  unfolding with_op ascii
-  operands_small op s l =
-      holds_then (operand_size (ascii "a=") (ltb 0 (used_of op)) s refl)
-      (λ a h. holds_then (operand_size (ascii "b=") (ltb 1 (used_of op)) a.rest refl)
-      (λ b i. holds_then (operand_size (ascii "c=") (ltb 2 (used_of op)) b.rest refl)
-      (λ c j. holds (answer_small op a.what b.what c.what c.rest (omega arith)))))
+joined_size : (j : Joined) → length (of_joined j).text ≤ 1 + 2 * length (joined_bytes j)
+joined_size (a_buffer l) = omega (arith, hex_length l)
+joined_size (a_string l) = omega (arith, hex_length l)
+joined_size (refused r) = omega arith
 
-job_small : (s : List ℕ) → Holds (Small (length s)) (job_of s)
-unfolding job_of ascii
-job_small s =
-    holds_then (line_size (ascii "op=") s)
-    (λ l h. holds_any (known (op_named ops l.what)) (λ op. operands_small (length s) op l.rest (omega arith)))
+letter_size : (v : AmlValue) → length (letter_of v) ≤ 1
+letter_size Val.String = omega arith
+letter_size Val.Buffer = omega arith
+letter_size (Val.BufferField o n) = omega arith
+letter_size (Val.Field f) = omega arith
+letter_size (Val.Boolean b) = omega arith
+letter_size (Val.Integer x) = omega arith
+letter_size Val.OpRegion = omega arith
+letter_size Val.Device = omega arith
+letter_size Val.Method = omega arith
+letter_size Val.Processor = omega arith
+letter_size Val.Mutex = omega arith
+letter_size Val.Package = omega arith
+letter_size Val.PowerResource = omega arith
+letter_size Val.ThermalZone = omega arith
 
--- what is written for it, and what is left
-abbrev Sized : ℕ → Taken (List ℕ) → Type 0
-Sized n t = ((length t.what + 9 * length t.rest ≤ 9 * n) × (length t.rest < n)) ⊎ ((t.rest ≡ []) × (length t.what ≤ 36))
+module _ (a : AmlValue) (s : List ℕ) (b : AmlValue) (t : List ℕ) (c : AmlValue) (u : List ℕ) where
+  answer_size : (op : Op) → length (answer_of op a s b t c u).text ≤ 73 + 2 * (length s + length t)
+  unfolding answer_of
+  answer_size (O.Number f) = omega (arith, integer_size (number_op f a s b t))
+  answer_size O.Mid = omega (arith, bytes_size (letter_of a) (mid a s b t c u) (letter_size a), mid_most a s b t c u)
+  answer_size O.Concat =
+      omega (arith, joined_size (joined (Conv.held_by a s) (Conv.held_by b t)), joined_most (18 + length s) (18 + length t) (omega arith) (omega arith) a s b t (omega arith) (omega arith))
+  answer_size O.ConcatRes =
+      let j = join_resources (Conv.to_buffer (Conv.held_by a s)) (Conv.to_buffer (Conv.held_by b t)) in
+      omega (arith, bytes_size buffer_letter j (omega arith), ended_most (18 + length s) (18 + length t) (omega arith) (omega arith) a s b t (omega arith) (omega arith))
+  answer_size O.Compare = omega (arith, order_size (compare a s b t))
 
-sized : (n : ℕ) (j : Answered (Taken Meaning)) → Holds (Small n) j → Sized n (told j)
-sized n (given j) (holds h) = inl h
-sized n (refused r) h = inr (refl, refused_size r)
+-- ---- a job of n bytes
 
-pub shorter : (s : List ℕ) → length (told (job_of s)).rest ≤ length s - 1
-shorter s =
-    ⊎_elim (λ h. omega (arith, h.1)) (λ h. omega (arith, ap length h.0)) (sized (length s) (job_of s) (job_small s))
+abbrev Sized : Told → ℕ → Type 0
+Sized t n = (length t.text + 9 * length t.rest ≤ 9 * n) ⊎ ((t.rest ≡ []) × (length t.text ≤ 36))
+
+malformed_size : (n : ℕ) → Sized malformed n
+malformed_size n = inr (refl, lines_size (refused_by R.MalformedJob))
+
+with_c_lem : (op : Op) (a : AmlValue) (s : List ℕ) (b : AmlValue) (t : List ℕ) (n : ℕ) (r : Read) → 10 + 2 * length s + 2 * length t + taken r ≤ n → Sized (with_c op a s b t r) n
+with_c_lem op a s b t n (value c u rest) h = inl (omega (arith, lines_size (answer_of op a s b t c u), answer_size a s b t c u op))
+with_c_lem op a s b t n wrong h = malformed_size n
+
+with_b_lem : (op : Op) (k : ℕ) (a : AmlValue) (s : List ℕ) (n : ℕ) (r : Read) → 7 + 2 * length s + taken r ≤ n → Sized (with_b op k a s r) n
+with_b_lem op k a s n (value b t rest) h = with_c_lem op a s b t n (operand_line c_name (ltb 2 k) rest) (omega (arith, operand_line_size c_name (ltb 2 k) rest refl))
+with_b_lem op k a s n wrong h = malformed_size n
+
+with_a_lem : (op : Op) (k n : ℕ) (r : Read) → 4 + taken r ≤ n → Sized (with_a op k r) n
+with_a_lem op k n (value a s rest) h = with_b_lem op k a s n (operand_line b_name (ltb 1 k) rest) (omega (arith, operand_line_size b_name (ltb 1 k) rest refl))
+with_a_lem op k n wrong h = malformed_size n
+
+with_op_lem : (op : Op) (k n : ℕ) (s : List ℕ) → 4 + length s ≤ n → Sized (with_op op k s) n
+unfolding with_op
+with_op_lem op k n s h = with_a_lem op k n (operand_line a_name (ltb 0 k) s) (omega (arith, operand_line_size a_name (ltb 0 k) s refl))
+
+by_name_lem : (x : OpAnswer) (rest : List ℕ) (n : ℕ) → 4 + length rest ≤ n → Sized (by_name x rest) n
+by_name_lem (OA.Is op k) rest n h = with_op_lem op k n rest h
+by_name_lem OA.Unknown rest n h = malformed_size n
+
+op_line_lem : (x : Named) (n : ℕ) → pieces 4 x ≤ n → Sized (op_line x) n
+op_line_lem (named l rest) n h = by_name_lem (row_of ops l) rest n (omega arith)
+op_line_lem no n h = malformed_size n
+
+job_size : (s : List ℕ) → Sized (job_of s) (length s)
+unfolding job_of
+job_size s = op_line_lem (next op_name s) (length s) (next_size op_name s)
 
 -- ---- all jobs
 
-pub none_left : (n : ℕ) → answers_to n [] ≡ []
+one_more : (n : ℕ) → ((t : List ℕ) → length (answers_to n t) ≤ 9 * length t + 36) → (s : List ℕ) → length (answers_to (suc n) s) ≤ 9 * length s + 36
 unfolding answers_to
-none_left zero = refl
-none_left (suc n) = refl
+one_more n f [] = omega arith
+one_more n f (c ∷ s) =
+    let t = (job_of (c ∷ s)).text in
+    let r = (job_of (c ∷ s)).rest in
+    let l = length-append t (answers_to n r) in
+    ⊎_elim
+    (λ h. omega (arith, f r))
+    (λ h. let z : length (answers_to n r) ≡ 0 = ap (λ (x : List ℕ). length (answers_to n x)) h.0 ∙ ap length (none_left n) in omega (arith, h.1))
+    (job_size (c ∷ s))
 
 answers_size : (n : ℕ) (s : List ℕ) → length (answers_to n s) ≤ 9 * length s + 36
 unfolding answers_to
 answers_size zero s = omega arith
-answers_size (suc n) [] = omega arith
-answers_size (suc n) (c ∷ s) =
-    let t = told (job_of (c ∷ s)) in
-    let l = length-append t.what (answers_to n t.rest) in
-    ⊎_elim
-    (λ h. omega (arith, answers_size n t.rest, h.0))
-    (λ h. let z : answers_to n t.rest ≡ [] = rw h.0 (none_left n) in omega (arith, h.1, ap length z))
-    (sized (length (c ∷ s)) (job_of (c ∷ s)) (job_small (c ∷ s)))
-
-pub output_long : (s : List ℕ) → most_bytes < length s → output s ≡ answer_lines malformed
-unfolding output
-output_long s h = rw (lt-ltb most_bytes (length s) h)
-
-pub output_short : (s : List ℕ) → length s ≤ most_bytes → output s ≡ answers_to (length s) s
-unfolding output
-output_short s h = rw (le-ltb most_bytes (length s) h)
+answers_size (suc n) s = one_more n (answers_size n) s
 
 pub output_most : (s : List ℕ) → length (output s) ≤ 589860
 output_most s =
-    lt_cases most_bytes (length s) (length (output s) ≤ 589860)
-    (λ h. rw (output_long s h) (omega (arith, refused_size R.MalformedJob)))
-    (λ h. rw (output_short s h) (omega (arith, answers_size (length s) s)))
+    lt_cases 65536 (length s) (length (output s) ≤ 589860)
+    (λ h. rw (output_long s h) (let m = lines_size (refused_by R.MalformedJob) in omega arith))
+    (λ h. rw (output_short s h) (let m = answers_size (length s) s in omega arith))
 
 -- 20 is never given to whoever lends as much
-pub never_short : (s out : List ℕ) → 589860 ≤ length out → script s out ≡ Answers.told (accepted (text (length (output s)))) (into (output s) out)
-unfolding script said
-never_short s out h = sym (delivers (text (output s)) out refl (omega (arith, output_most s)))
+pub never_short : (s out : List ℕ) → 589860 ≤ length out → script s out ≡ Conv.given (LA.Length (length (output s))) (Conv.into (output s) out)
+unfolding script
+never_short s out h = let m = output_most s in giving_these (output s) out (omega arith)

@@ -2,21 +2,32 @@
 -- Both are what the definitions compute.
 -- Assumes nothing.
 use mathlib.Core.Path.{◌≡◌, refl}
-use mathlib.Core.List.{[]}
-use Rattle.text.specs.Quoted.{ascii}
+use mathlib.Core.List.{List, [], ◌∷◌, ◌++◌}
+use Prim.Native.Nat.{ℕ}
+use Rattle.types.specs.Refusals.{first_of}
 use Rattle.text.specs.Lines.{line_of, begins}
+use Rattle.text.specs.Pairs.{pairs_of, within}
 use Rattle.text.specs.Texts.{digit_of, all_digits, value_from, number_of}
 use Rattle.text.specs.Written.{decimal_digits, decimal_text}
-use Rattle.types.specs.Answers.{lent, saying}
-use Rattle.value.specs.Conversions.{read, integer_of, to_integer}
-use Rattle.expression.specs.Operators.{operated}
-use Rattle.expression.specs.Calls.{operate}
-use Rattle.script.specs.Operands.{text_of}
-use Rattle.script.specs.Ops.{op_named, meaning_of, answer_lines}
-use Rattle.script.specs.Runs.{line_named, operand_line, with_op, job_of, answers_to, output}
+use Rattle.value.specs.Conversions.{to_integer}
+use Rattle.expression.specs.Numbers.{operands, binary}
+use Rattle.script.specs.Operands.{operand_of}
+use Rattle.script.specs.Ops.{answer_of, row_of}
+use Rattle.script.specs.Runs.{operand_line, status_line, answer_lines, with_op, job_of, answers_to, output}
 
-pub whole_case : output (ascii "op=add\na=18446744073709551615\nb=2\nc=-\n") ≡ ascii "status=0\nvalue=1\n"
-unfolding ascii line_of begins digit_of all_digits value_from number_of decimal_digits decimal_text lent saying read integer_of to_integer operated operate text_of op_named meaning_of answer_lines line_named operand_line with_op job_of answers_to output
+abbrev pub whole_input : List ℕ
+whole_input =
+    (111 ∷ 112 ∷ 61 ∷ 97 ∷ 100 ∷ 100 ∷ 10 ∷ [])
+    ++ (97 ∷ 61 ∷ 49 ∷ 56 ∷ 52 ∷ 52 ∷ 54 ∷ 55 ∷ 52 ∷ 52 ∷ 48 ∷ 55 ∷ 51 ∷ 55 ∷ 48 ∷ 57 ∷ 53 ∷ 53 ∷ 49 ∷ 54 ∷ 49 ∷ 53 ∷ 10 ∷ [])
+    ++ (98 ∷ 61 ∷ 50 ∷ 10 ∷ [])
+    ++ (99 ∷ 61 ∷ 45 ∷ 10 ∷ [])
+
+abbrev pub whole_output : List ℕ
+whole_output = (115 ∷ 116 ∷ 97 ∷ 116 ∷ 117 ∷ 115 ∷ 61 ∷ 48 ∷ 10 ∷ [])
+    ++ (118 ∷ 97 ∷ 108 ∷ 117 ∷ 101 ∷ 61 ∷ 49 ∷ 10 ∷ [])
+
+pub whole_case : output whole_input ≡ whole_output
+unfolding first_of line_of begins pairs_of within digit_of all_digits value_from number_of decimal_digits decimal_text to_integer operands binary operand_of answer_of row_of operand_line status_line answer_lines with_op job_of answers_to output
 whole_case = refl
 
 pub empty_input : output [] ≡ []

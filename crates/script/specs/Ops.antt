@@ -1,94 +1,133 @@
--- Document 01, "Script program": "Ops: add, and, inc, dec, shl, shr, mid, concat, concatres, toint, cmp", what each answers, and how answers are
--- shown. The operators on integers come from their rows.
+-- Document 01, "Script program": "Ops: add, and, inc, dec, shl, shr, mid, concat, concatres, toint, cmp", and how their answers are shown.
 -- Assumes nothing.
-use Rattle.std.specs.Prelude.{ℕ, cond, List, [], ◌∷◌, ◌++◌}
-use Prim.Native.String.{String}
-use Rattle.bits.specs.Integers.{integer_bits}
-use Rattle.text.specs.Quoted.{ascii}
-use Rattle.text.specs.Names.{same}
+use Rattle.std.specs.Prelude.{ℕ, Bool, cond, ◌&&◌, List, [], ◌∷◌, ◌++◌, eqb, length}
+use Rattle.types.specs.Refusals.{number_of}
+use Rattle.types.specs.declared.refusal.Refusal.{Refusal}
+use Rattle.types.specs.declared.value.AmlValue.{AmlValue}
+use Rattle.types.specs.declared.value.AmlValue.TheVariants as Val
+use Rattle.text.specs.Lines.{begins}
 use Rattle.text.specs.Written.{decimal_text, hex_text}
-use Rattle.types.specs.Answers.{given, refused, Bare, nothing, truth, number, itself, less, equal, greater, status, Value, bare, text, bytes, Meaning, saying}
-use Rattle.value.specs.Calls.{def_to_integer}
-use Rattle.expression.specs.Operators.{row_of, operators}
-use Rattle.expression.specs.Calls.{operate, compare, concat, concat_res, mid}
-use Rattle.expression.specs.declared.operator.Operator.{Operator}
-use Rattle.script.specs.Operands.{Operand}
+use Rattle.value.specs.Conversions.{held_by, to_buffer, Bytes, these, none}
+use Rattle.value.specs.Integers.{def_to_integer}
+use Rattle.value.specs.declared.convert.IntegerAnswer.{IntegerAnswer}
+use Rattle.value.specs.declared.convert.IntegerAnswer.TheVariants as IA
+use Rattle.expression.specs.Numbers.{unary, binary, add, and, increment, decrement, shift_left, shift_right}
+use Rattle.expression.specs.Compare.{compare}
+use Rattle.expression.specs.declared.compare.CompareAnswer.{CompareAnswer}
+use Rattle.expression.specs.declared.compare.CompareAnswer.TheVariants as C
+use Rattle.expression.specs.Mid.{mid}
+use Rattle.expression.specs.Concat.{Joined, a_buffer, a_string, refused, joined, join_resources}
+use Rattle.script.specs.declared.op.NumberOp.{NumberOp}
+use Rattle.script.specs.declared.op.NumberOp.TheVariants as N
 use Rattle.script.specs.declared.op.Op.{Op}
 use Rattle.script.specs.declared.op.Op.TheVariants as O
 use Rattle.script.specs.declared.op.OpAnswer.{OpAnswer}
 use Rattle.script.specs.declared.op.OpAnswer.TheVariants as OA
 
--- ---- the table
+-- ---- answers: a status, and the text of a value
 
-abbrev pub name_of : Op → String
-name_of (O.Operator o) = (row_of o).name
-name_of O.Mid = "mid"
-name_of O.Concat = "concat"
-name_of O.ConcatRes = "concatres"
-name_of O.ToInteger = "toint"
-name_of O.Compare = "cmp"
+pub record Shown : Type 0 where
+  pub status : ℕ
+  pub text : List ℕ
 
--- how many of a, b, c it uses: as many as the operator has, in ACPI's order (Mid: source, index, length)
-abbrev pub used_of : Op → ℕ
-used_of (O.Operator o) = (row_of o).operands
-used_of O.Mid = 3
-used_of O.Concat = 2
-used_of O.ConcatRes = 2
-used_of O.ToInteger = 1
-used_of O.Compare = 2
-
-abbrev pub others : List Op
-others = O.Mid ∷ O.Concat ∷ O.ConcatRes ∷ O.ToInteger ∷ O.Compare ∷ []
-
-abbrev pub with_others : List Operator → List Op
-with_others [] = others
-with_others (o ∷ more) = O.Operator o ∷ with_others more
-
-abbrev pub ops : List Op
-ops = with_others operators
-
--- the op of a name
-unfoldable pub op_named : List Op → List ℕ → OpAnswer
-op_named [] l = OA.Unknown
-op_named (o ∷ more) l = cond (same (ascii (name_of o)) l) (OA.Is o) (op_named more l)
-
--- ---- what each op answers, of a, b and c
-
-unfoldable pub meaning_of : Op → Operand → Operand → Operand → Meaning
-meaning_of (O.Operator o) a b c = operate integer_bits o a.value a.bytes b.value b.bytes
-meaning_of O.Mid a b c = mid integer_bits a.value a.bytes b.value b.bytes c.value c.bytes
-meaning_of O.Concat a b c = concat integer_bits a.value a.bytes b.value b.bytes
-meaning_of O.ConcatRes a b c = concat_res integer_bits a.value a.bytes b.value b.bytes
-meaning_of O.ToInteger a b c = def_to_integer integer_bits a.value a.bytes
-meaning_of O.Compare a b c = compare integer_bits a.value a.bytes b.value b.bytes
-
--- ---- how an answer is shown
-
--- "cmp 0, 1, 2 for less, equal, greater"; what no op gives is shown as nothing is
-abbrev pub shown_bare : Bare → List ℕ
-shown_bare (number n) = decimal_text n
-shown_bare less = ascii "0"
-shown_bare equal = ascii "1"
-shown_bare greater = ascii "2"
-shown_bare nothing = ascii "-"
-shown_bare (truth b) = ascii "-"
-shown_bare itself = ascii "-"
-shown_bare (status s) = ascii "-"
-
--- "a buffer behind `x`, a string behind `s`"
-abbrev pub shown_value : Value (List ℕ) → List ℕ
-shown_value (bare v) = shown_bare v
-shown_value (text l) = ascii "s" ++ hex_text l
-shown_value (bytes l) = ascii "x" ++ hex_text l
+abbrev pub shown : List ℕ → Shown
+shown l = record { status = 0; text = l }
 
 -- "`-` on refusal"
-abbrev pub shown : Meaning → List ℕ
-shown (given v) = shown_value v
-shown (refused r) = ascii "-"
+abbrev pub refused_by : Refusal → Shown
+refused_by r = record { status = number_of r; text = 45 ∷ [] }
 
-abbrev pub line_feed : List ℕ
-line_feed = 10 ∷ []
+abbrev pub of_integer : IntegerAnswer → Shown
+of_integer (IA.Integer n) = shown (decimal_text n)
+of_integer (IA.Refused r) = refused_by r
 
--- "Each answer is `status=` and `value=`", "every line (output too) ended by a line feed"
-unfoldable pub answer_lines : Meaning → List ℕ
-answer_lines m = ascii "status=" ++ (decimal_text (saying m).no ++ (line_feed ++ (ascii "value=" ++ (shown m ++ line_feed))))
+-- "cmp 0, 1, 2 for less, equal, greater"
+abbrev pub of_compare : CompareAnswer → Shown
+of_compare C.Less = shown (48 ∷ [])
+of_compare C.Equal = shown (49 ∷ [])
+of_compare C.Greater = shown (50 ∷ [])
+of_compare (C.Refused r) = refused_by r
+
+-- "a buffer behind `x`, a string behind `s`"
+abbrev pub buffer_letter : List ℕ
+buffer_letter = 120 ∷ []
+
+abbrev pub string_letter : List ℕ
+string_letter = 115 ∷ []
+
+abbrev pub of_bytes : List ℕ → Bytes → Shown
+of_bytes letter (these l) = shown (letter ++ hex_text l)
+of_bytes letter (none r) = refused_by r
+
+abbrev pub of_joined : Joined → Shown
+of_joined (a_buffer l) = shown (buffer_letter ++ hex_text l)
+of_joined (a_string l) = shown (string_letter ++ hex_text l)
+of_joined (refused r) = refused_by r
+
+-- a part of a String is a String; of anything else that has parts, a Buffer
+abbrev pub letter_of : AmlValue → List ℕ
+letter_of Val.String = string_letter
+letter_of Val.Buffer = buffer_letter
+letter_of (Val.Boolean b) = buffer_letter
+letter_of (Val.Integer n) = buffer_letter
+letter_of (Val.BufferField o n) = buffer_letter
+letter_of (Val.Field f) = buffer_letter
+letter_of Val.OpRegion = buffer_letter
+letter_of Val.Device = buffer_letter
+letter_of Val.Method = buffer_letter
+letter_of Val.Processor = buffer_letter
+letter_of Val.Mutex = buffer_letter
+letter_of Val.Package = buffer_letter
+letter_of Val.PowerResource = buffer_letter
+letter_of Val.ThermalZone = buffer_letter
+
+-- ---- what each op answers, of a, b and c with their bytes
+
+abbrev pub number_op : NumberOp → AmlValue → List ℕ → AmlValue → List ℕ → IntegerAnswer
+number_op N.Add a s b t = binary add a s b t
+number_op N.And a s b t = binary and a s b t
+number_op N.Increment a s b t = unary increment a s
+number_op N.Decrement a s b t = unary decrement a s
+number_op N.ShiftLeft a s b t = binary shift_left a s b t
+number_op N.ShiftRight a s b t = binary shift_right a s b t
+number_op N.ToInteger a s b t = def_to_integer a s
+
+unfoldable pub answer_of : Op → AmlValue → List ℕ → AmlValue → List ℕ → AmlValue → List ℕ → Shown
+answer_of (O.Number f) a s b t c u = of_integer (number_op f a s b t)
+answer_of O.Mid a s b t c u = of_bytes (letter_of a) (mid a s b t c u)
+answer_of O.Concat a s b t c u = of_joined (joined (held_by a s) (held_by b t))
+answer_of O.ConcatRes a s b t c u = of_bytes buffer_letter (join_resources (to_buffer (held_by a s)) (to_buffer (held_by b t)))
+answer_of O.Compare a s b t c u = of_compare (compare a s b t)
+
+-- ---- the table: a name, which operator it is, how many of a, b, c it uses: as many as the operator has, in ACPI's order (Mid: source, index, length)
+
+pub record Row : Type 0 where
+  pub name : List ℕ
+  pub op : Op
+  pub used : ℕ
+
+abbrev pub row : List ℕ → Op → ℕ → Row
+row name op used = record { name = name; op = op; used = used }
+
+abbrev pub ops : List Row
+ops =
+    row (97 ∷ 100 ∷ 100 ∷ []) (O.Number N.Add) 2
+    ∷ row (97 ∷ 110 ∷ 100 ∷ []) (O.Number N.And) 2
+    ∷ row (105 ∷ 110 ∷ 99 ∷ []) (O.Number N.Increment) 1
+    ∷ row (100 ∷ 101 ∷ 99 ∷ []) (O.Number N.Decrement) 1
+    ∷ row (115 ∷ 104 ∷ 108 ∷ []) (O.Number N.ShiftLeft) 2
+    ∷ row (115 ∷ 104 ∷ 114 ∷ []) (O.Number N.ShiftRight) 2
+    ∷ row (109 ∷ 105 ∷ 100 ∷ []) O.Mid 3
+    ∷ row (99 ∷ 111 ∷ 110 ∷ 99 ∷ 97 ∷ 116 ∷ []) O.Concat 2
+    ∷ row (99 ∷ 111 ∷ 110 ∷ 99 ∷ 97 ∷ 116 ∷ 114 ∷ 101 ∷ 115 ∷ []) O.ConcatRes 2
+    ∷ row (116 ∷ 111 ∷ 105 ∷ 110 ∷ 116 ∷ []) (O.Number N.ToInteger) 1
+    ∷ row (99 ∷ 109 ∷ 112 ∷ []) O.Compare 2
+    ∷ []
+
+abbrev pub same : List ℕ → List ℕ → Bool
+same name l = eqb (length l) (length name) && begins name l
+
+-- the row of a name
+unfoldable pub row_of : List Row → List ℕ → OpAnswer
+row_of [] l = OA.Unknown
+row_of (r ∷ rows) l = cond (same r.name l) (OA.Is r.op r.used) (row_of rows l)

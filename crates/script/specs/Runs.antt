@@ -1,80 +1,123 @@
 -- Document 01, "Script program": a job, its answer, the run.
 -- Assumes nothing.
-use Rattle.std.specs.Prelude.{ℕ, zero, suc, Bool, true, false, cond, List, [], ◌∷◌, ◌++◌, ltb, length}
-use Prim.Native.String.{String}
-use Rattle.text.specs.Quoted.{ascii}
-use Rattle.text.specs.Lines.{line_of, Named, named, misnamed, named_by}
-use Rattle.types.specs.Limits.{too_long}
-use Rattle.types.specs.Answers.{Answered, given, refused, ◌>>=◌, text, Meaning, Told, delivered}
+use Rattle.std.specs.Prelude.{ℕ, zero, suc, Bool, true, false, cond, List, [], ◌∷◌, ◌++◌, ltb, length, drop}
 use Rattle.types.specs.declared.refusal.Refusal.TheVariants as R
+use Rattle.types.specs.declared.value.AmlValue.{AmlValue}
 use Rattle.types.specs.declared.value.AmlValue.TheVariants as Val
-use Rattle.script.specs.Operands.{Operand, operand, Text, is, unused, bad, text_of}
-use Rattle.script.specs.Ops.{used_of, ops, op_named, meaning_of, answer_lines}
+use Rattle.text.specs.Lines.{Line, line, missing, line_of, begins}
+use Rattle.text.specs.Written.{decimal_text}
+use Rattle.value.specs.Conversions.{Given, these, giving}
+use Rattle.script.specs.Operands.{Operand, operand, unused, bad, operand_of}
+use Rattle.script.specs.Ops.{Shown, refused_by, answer_of, ops, row_of}
 use Rattle.script.specs.declared.op.Op.{Op}
 use Rattle.script.specs.declared.op.OpAnswer.{OpAnswer}
 use Rattle.script.specs.declared.op.OpAnswer.TheVariants as OA
 
--- ---- a job
+-- ---- a line with its name
 
-abbrev pub malformed : {A : Type 0} → Answered A
-malformed = refused R.MalformedJob
-
--- what was read, and what follows it
-pub record Taken (A : Type 0) : Type 0 where
-  pub what : A
-  pub rest : List ℕ
-
-abbrev pub taken : {A : Type 0} → A → List ℕ → Taken A
-taken a rest = record { what = a; rest = rest }
+-- what stands behind the name, and what follows the line
+pub data Named : Type 0 where
+  named : List ℕ → List ℕ → Named
+  no : Named
 
 -- "a line is missing or misnamed"
-abbrev pub named_text : Named → Answered (Taken (List ℕ))
-named_text (named l rest) = given (taken l rest)
-named_text misnamed = malformed
+abbrev pub named_line : List ℕ → Line → Named
+named_line name (line l rest) = cond (begins name l) (named (drop (length name) l) rest) no
+named_line name missing = no
 
-unfoldable pub line_named : List ℕ → List ℕ → Answered (Taken (List ℕ))
-line_named name s = named_text (named_by name (line_of s))
+abbrev pub next : List ℕ → List ℕ → Named
+next name s = named_line name (line_of s)
 
--- "the op unknown"
-abbrev pub known : OpAnswer → Answered Op
-known (OA.Is o) = given o
-known OA.Unknown = malformed
+-- `op=`, `a=`, `b=`, `c=`
+abbrev pub op_name : List ℕ
+op_name = 111 ∷ 112 ∷ 61 ∷ []
+
+abbrev pub a_name : List ℕ
+a_name = 97 ∷ 61 ∷ []
+
+abbrev pub b_name : List ℕ
+b_name = 98 ∷ 61 ∷ []
+
+abbrev pub c_name : List ℕ
+c_name = 99 ∷ 61 ∷ []
+
+-- ---- an operand's line: a value with its bytes, and what follows the line
+pub data Read : Type 0 where
+  value : AmlValue → List ℕ → List ℕ → Read
+  wrong : Read
 
 -- "`-` stands for a used operand or something else for an unused one"; the place of an unused one is taken by an Integer that no op looks at
-abbrev pub filled : Bool → Text → Answered Operand
-filled true (is o) = given o
-filled true unused = malformed
-filled true bad = malformed
-filled false (is o) = malformed
-filled false unused = given (operand (Val.Integer 0) [])
-filled false bad = malformed
+abbrev pub fill : Bool → Operand → List ℕ → Read
+fill true (operand v l) rest = value v l rest
+fill true unused rest = wrong
+fill true bad rest = wrong
+fill false (operand v l) rest = wrong
+fill false unused rest = value (Val.Integer 0) [] rest
+fill false bad rest = wrong
 
-unfoldable pub operand_line : List ℕ → Bool → List ℕ → Answered (Taken Operand)
-operand_line name used s = do
-  l ← line_named name s
-  o ← filled used (text_of l.what)
-  given (taken o l.rest)
+abbrev pub fill_named : Bool → Named → Read
+fill_named used (named l rest) = fill used (operand_of l) rest
+fill_named used no = wrong
 
--- the operands of an op, each line behind the one before; then what it answers
-unfoldable pub with_op : Op → List ℕ → Answered (Taken Meaning)
-with_op op s = do
-  a ← operand_line (ascii "a=") (ltb 0 (used_of op)) s
-  b ← operand_line (ascii "b=") (ltb 1 (used_of op)) a.rest
-  c ← operand_line (ascii "c=") (ltb 2 (used_of op)) b.rest
-  given (taken (meaning_of op a.what b.what c.what) c.rest)
+unfoldable pub operand_line : List ℕ → Bool → List ℕ → Read
+operand_line name used s = fill_named used (next name s)
 
--- "jobs of four lines each .. in this order: `op=`, `a=`, `b=`, `c=`"
-unfoldable pub job_of : List ℕ → Answered (Taken Meaning)
-job_of s = do
-  l ← line_named (ascii "op=") s
-  op ← known (op_named ops l.what)
-  with_op op l.rest
+-- ---- answers
 
--- ---- what is written for a job, and what is left of the input; a malformed one "answers `status=40`, `value=-` and ends the run"
+-- `status=`; a line feed and `value=`
+abbrev pub status_text : List ℕ
+status_text = 115 ∷ 116 ∷ 97 ∷ 116 ∷ 117 ∷ 115 ∷ 61 ∷ []
 
-abbrev pub told : Answered (Taken Meaning) → Taken (List ℕ)
-told (given j) = taken (answer_lines j.what) j.rest
-told (refused r) = taken (answer_lines (refused r)) []
+abbrev pub value_text : List ℕ
+value_text = 10 ∷ 118 ∷ 97 ∷ 108 ∷ 117 ∷ 101 ∷ 61 ∷ []
+
+unfoldable pub status_line : ℕ → List ℕ
+status_line n = status_text ++ (decimal_text n ++ value_text)
+
+-- "Each answer is `status=` and `value=`", "every line (output too) ended by a line feed"
+unfoldable pub answer_lines : Shown → List ℕ
+answer_lines a = status_line a.status ++ (a.text ++ (10 ∷ []))
+
+-- ---- a job: what is told, and what is left of the input
+
+pub record Told : Type 0 where
+  pub text : List ℕ
+  pub rest : List ℕ
+
+abbrev pub told : Shown → List ℕ → Told
+told a rest = record { text = answer_lines a; rest = rest }
+
+-- "It answers `status=40`, `value=-` and ends the run"
+abbrev pub malformed : Told
+malformed = told (refused_by R.MalformedJob) []
+
+abbrev pub with_c : Op → AmlValue → List ℕ → AmlValue → List ℕ → Read → Told
+with_c op a s b t (value c u rest) = told (answer_of op a s b t c u) rest
+with_c op a s b t wrong = malformed
+
+abbrev pub with_b : Op → ℕ → AmlValue → List ℕ → Read → Told
+with_b op n a s (value b t rest) = with_c op a s b t (operand_line c_name (ltb 2 n) rest)
+with_b op n a s wrong = malformed
+
+abbrev pub with_a : Op → ℕ → Read → Told
+with_a op n (value a s rest) = with_b op n a s (operand_line b_name (ltb 1 n) rest)
+with_a op n wrong = malformed
+
+-- the operands of an op that uses n of a, b, c
+unfoldable pub with_op : Op → ℕ → List ℕ → Told
+with_op op n s = with_a op n (operand_line a_name (ltb 0 n) s)
+
+-- "the op unknown"
+abbrev pub by_name : OpAnswer → List ℕ → Told
+by_name (OA.Is op n) rest = with_op op n rest
+by_name OA.Unknown rest = malformed
+
+abbrev pub op_line : Named → Told
+op_line (named l rest) = by_name (row_of ops l) rest
+op_line no = malformed
+
+unfoldable pub job_of : List ℕ → Told
+job_of s = op_line (next op_name s)
 
 -- ---- the run
 
@@ -82,12 +125,12 @@ told (refused r) = taken (answer_lines (refused r)) []
 unfoldable pub answers_to : ℕ → List ℕ → List ℕ
 answers_to zero s = []
 answers_to (suc n) [] = []
-answers_to (suc n) (c ∷ s) = (told (job_of (c ∷ s))).what ++ answers_to n (told (job_of (c ∷ s))).rest
+answers_to (suc n) (c ∷ s) = (job_of (c ∷ s)).text ++ answers_to n (job_of (c ∷ s)).rest
 
 -- "so does input over 65,536 bytes, with no job answered before it"; "Empty input, empty output."
 unfoldable pub output : List ℕ → List ℕ
-output s = cond (too_long s) (answer_lines malformed) (answers_to (length s) s)
+output s = cond (ltb 65536 (length s)) malformed.text (answers_to (length s) s)
 
 -- at the front of an output, which keeps what it has behind it; 20 where it is too short
-unfoldable pub script : List ℕ → List ℕ → Told
-script s out = delivered (given (text (output s))) out
+unfoldable pub script : List ℕ → List ℕ → Given
+script s out = giving (these (output s)) out

@@ -1,69 +1,88 @@
-// The table of ops: the operators on integers by their own table, the others here.
+// The table of ops: a name, which operator it is, how many of a, b, c it uses.
 ghost use Rattle.std.specs.Prelude.{◌≡◌};
 ghost use Rattle.script.specs.Ops as Ops;
 
-use expression::operator::{NamedOperator, Operator, operands, operator_named};
-use text::names::is_name;
+use text::lines::begins_with;
+
+// The ops that answer a number.
+#[derive(Drop)]
+pub enum NumberOp {
+    Add,
+    And,
+    Increment,
+    Decrement,
+    ShiftLeft,
+    ShiftRight,
+    ToInteger,
+}
 
 #[derive(Drop)]
 pub enum Op {
-    Operator(Operator),
+    Number(NumberOp),
     Mid,
     Concat,
     ConcatRes,
-    ToInteger,
     Compare,
 }
 
-// The op of a name.
 #[derive(Drop)]
 pub enum OpAnswer {
-    Is(Op),
+    Is(Op, usize),
     Unknown,
 }
 
-// How many of a, b, c the op uses.
-pub(crate) fn used_by(op: Op) -> usize
-    ensures { result ≡ Ops.used_of op }
+// Is this text the name?
+fn same(s: &[u8], name: &[u8]) -> bool
+    ensures { result ≡ Ops.same name.now s.now }
 {
-    match op {
-        Op::Operator(o) => operands(o),
-        Op::Mid => 3,
-        Op::Concat => 2,
-        Op::ConcatRes => 2,
-        Op::ToInteger => 1,
-        Op::Compare => 2,
+    if s.len() != name.len() {
+        return false;
     }
+    begins_with(s, name)
 }
 
-// One that is no operator on integers.
-fn other_op(s: &[u8]) -> OpAnswer
-    ensures { result ≡ Ops.op_named Ops.others s.now }
+fn number(op: NumberOp, used: usize) -> OpAnswer
+    ensures { result ≡ OpAnswer.Is (Op.Number op) used }
 {
-    if is_name(s, b"mid") {
-        return OpAnswer::Is(Op::Mid);
+    OpAnswer::Is(Op::Number(op), used)
+}
+
+// The table: the row of a name.
+pub(crate) fn op_of(s: &[u8]) -> OpAnswer
+    ensures { result ≡ Ops.row_of Ops.ops s.now }
+{
+    if same(s, b"add") {
+        return number(NumberOp::Add, 2);
     }
-    if is_name(s, b"concat") {
-        return OpAnswer::Is(Op::Concat);
+    if same(s, b"and") {
+        return number(NumberOp::And, 2);
     }
-    if is_name(s, b"concatres") {
-        return OpAnswer::Is(Op::ConcatRes);
+    if same(s, b"inc") {
+        return number(NumberOp::Increment, 1);
     }
-    if is_name(s, b"toint") {
-        return OpAnswer::Is(Op::ToInteger);
+    if same(s, b"dec") {
+        return number(NumberOp::Decrement, 1);
     }
-    if is_name(s, b"cmp") {
-        return OpAnswer::Is(Op::Compare);
+    if same(s, b"shl") {
+        return number(NumberOp::ShiftLeft, 2);
+    }
+    if same(s, b"shr") {
+        return number(NumberOp::ShiftRight, 2);
+    }
+    if same(s, b"mid") {
+        return OpAnswer::Is(Op::Mid, 3);
+    }
+    if same(s, b"concat") {
+        return OpAnswer::Is(Op::Concat, 2);
+    }
+    if same(s, b"concatres") {
+        return OpAnswer::Is(Op::ConcatRes, 2);
+    }
+    if same(s, b"toint") {
+        return number(NumberOp::ToInteger, 1);
+    }
+    if same(s, b"cmp") {
+        return OpAnswer::Is(Op::Compare, 2);
     }
     OpAnswer::Unknown
-}
-
-pub(crate) fn op_of(s: &[u8]) -> OpAnswer
-    ensures { result ≡ Ops.op_named Ops.ops s.now }
-{
-    let found = operator_named(s);
-    match found {
-        NamedOperator::Is(o) => OpAnswer::Is(Op::Operator(o)),
-        NamedOperator::Unknown => other_op(s),
-    }
 }

@@ -1,12 +1,12 @@
-// The text of an operand. The bytes of a Buffer or a String are written to the front of scratch.
+// The text of an operand, by its first character. The bytes of a Buffer or a String are written to the front of scratch.
 ghost use Rattle.std.specs.Prelude.{◌≡◌, ◌≤◌, length};
+ghost use Rattle.text.specs.Texts.{number_of};
 ghost use Rattle.text.specs.Pairs.{pairs_of, within};
 ghost use Rattle.script.specs.Operands as O;
 ghost use Rattle.script.specs.Steps as S;
 
 use text::Number;
-use text::lines::{PairsAnswer, begins_with};
-use text::names::is_name;
+use text::lines::PairsAnswer;
 use types::value::AmlValue;
 
 // A value, and how many bytes it has; `-`; or neither.
@@ -17,10 +17,29 @@ pub enum OperandAnswer {
     Bad,
 }
 
+// A character that stands alone, with nothing behind it.
+fn alone(rest: &[u8], answer: OperandAnswer) -> OperandAnswer
+    ensures { result ≡ S.alone_as rest.now answer }
+{
+    if 0 < rest.len() {
+        return OperandAnswer::Bad;
+    }
+    answer
+}
+
+fn number_operand(s: &[u8]) -> OperandAnswer
+    ensures { result ≡ S.number_as (number_of 10 s.now) }
+{
+    let number = text::decimal(s);
+    match number {
+        Number::Is(n) => OperandAnswer::Is(AmlValue::Integer(n), 0),
+        Number::Bad => OperandAnswer::Bad,
+    }
+}
+
 fn bytes_operand(value: AmlValue, s: &[u8], scratch: &mut [u8]) -> OperandAnswer
-    requires { length scratch.old ≡ O.most }
-    ensures { (S.read_as result scratch.new ≡ O.of_pairs value (within O.most (pairs_of s.now)))
-        × (S.count_of result ≤ O.most) }
+    requires { length scratch.old ≡ 256 }
+    ensures { (S.read_as result scratch.new ≡ O.bytes_operand value (within 256 (pairs_of s.now))) × (S.count_of result ≤ 256) }
 {
     let read = text::lines::pairs(s, scratch);
     match read {
@@ -30,27 +49,28 @@ fn bytes_operand(value: AmlValue, s: &[u8], scratch: &mut [u8]) -> OperandAnswer
 }
 
 pub(crate) fn operand_of(s: &[u8], scratch: &mut [u8]) -> OperandAnswer
-    requires { length scratch.old ≡ O.most }
-    ensures { (S.read_as result scratch.new ≡ O.text_of s.now) × (S.count_of result ≤ O.most) }
+    requires { length scratch.old ≡ 256 }
+    ensures { (S.read_as result scratch.new ≡ O.operand_of s.now) × (S.count_of result ≤ 256) }
 {
-    if is_name(s, b"-") {
-        return OperandAnswer::Unused;
+    if s.len() == 0 {
+        return OperandAnswer::Bad;
     }
-    if is_name(s, b"t") {
-        return OperandAnswer::Is(AmlValue::Boolean(true), 0);
+    let first = s[0];
+    let rest = &s[1..];
+    if first == b'-' {
+        return alone(rest, OperandAnswer::Unused);
     }
-    if is_name(s, b"f") {
-        return OperandAnswer::Is(AmlValue::Boolean(false), 0);
+    if first == b't' {
+        return alone(rest, OperandAnswer::Is(AmlValue::Boolean(true), 0));
     }
-    if begins_with(s, b"x") {
-        return bytes_operand(AmlValue::Buffer, &s[1..], scratch);
+    if first == b'f' {
+        return alone(rest, OperandAnswer::Is(AmlValue::Boolean(false), 0));
     }
-    if begins_with(s, b"s") {
-        return bytes_operand(AmlValue::String, &s[1..], scratch);
+    if first == b'x' {
+        return bytes_operand(AmlValue::Buffer, rest, scratch);
     }
-    let number = text::decimal(s);
-    match number {
-        Number::Is(n) => OperandAnswer::Is(AmlValue::Integer(n), 0),
-        Number::Bad => OperandAnswer::Bad,
+    if first == b's' {
+        return bytes_operand(AmlValue::String, rest, scratch);
     }
+    number_operand(s)
 }

@@ -1,17 +1,15 @@
 // The run: job after job, until the input is used up or a job is malformed.
 ghost use Rattle.std.specs.Prelude.{◌≤◌, length};
-ghost use Rattle.types.specs.Limits.{most_bytes};
 ghost use Rattle.script.specs.Runs.{output, answers_to};
 ghost use Rattle.script.specs.Steps.{Put};
 
 use crate::job::{answer_job, malformed};
-use types::limit::MOST_BYTES;
 
 // The answers to all jobs, into the output as far as it reaches; how many bytes they are.
 pub(crate) fn answers(input: &[u8], out: &mut [u8]) -> usize
     ensures { Put out.old 0 (output input.now) out.new result }
 {
-    if MOST_BYTES < input.len() {
+    if 65536 < input.len() {
         return malformed(out, 0);
     }
     answer_jobs(input, out)
@@ -19,7 +17,7 @@ pub(crate) fn answers(input: &[u8], out: &mut [u8]) -> usize
 
 // Job after job; what is written is as long for any output.
 fn answer_jobs(input: &[u8], out: &mut [u8]) -> usize
-    requires { length input.now ≤ most_bytes }
+    requires { length input.now ≤ 65536 }
     ensures { Put out.old 0 (answers_to (length input.now) input.now) out.new result }
 {
     let mut from: usize = 0;

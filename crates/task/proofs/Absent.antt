@@ -72,22 +72,22 @@ module _ (m : Moment) (s : Sound m.table) (v : AllUnstored m) (i : ℕ) (p : Ste
   abbrev me : Task
   me = task_at m.table i
 
-  abbrev heldNow : ℕ
-  heldNow = (accessed me m.region).held
+  abbrev held_now : ℕ
+  held_now = (accessed me m.region).held
 
   abbrev next : Moment
   next = after_access m i
 
   -- the task itself: idle after its last access, and before it without a store
-  this_unstored : (b : Bool) → is_last me ≡ b → Unstored (task_after b me heldNow) (stored_by m i (answer_after b me.op.write heldNow) i)
+  this_unstored : (b : Bool) → is_last me ≡ b → Unstored (task_after b me held_now) (stored_by m i (answer_after b me.op.write held_now) i)
   this_unstored true e q w = absurd (true≢false (sym q))
   this_unstored false e q w =
       change_this m.stored i (m.stored i ++ next_store me)
       ∙ ap (λ l. l ++ next_store me) (v i p.busy w)
       ∙ not_yet me.op w me.made me.held (omega (arith, (s.healthy i p.busy).1, eqb-false (me.made + 1) (count_of me.op) e))
 
-  this_now : task_at next.table i ≡ task_after (is_last me) me heldNow
-  this_now = set_this m.table next.table.holder i (task_after (is_last me) me heldNow) (omega (arith, s.four, p.small))
+  this_now : task_at next.table i ≡ task_after (is_last me) me held_now
+  this_now = set_this m.table next.table.holder i (task_after (is_last me) me held_now) (omega (arith, s.four, p.small))
 
   step_unstored : AllUnstored next
   step_unstored j = go (ℕ_discrete j i)
@@ -97,7 +97,7 @@ module _ (m : Moment) (s : Sound m.table) (v : AllUnstored m) (i : ℕ) (p : Ste
           subst (λ x. Unstored (task_at next.table x) (next.stored x)) (sym e)
           (subst (λ k. Unstored k (next.stored i)) (sym this_now) (this_unstored (is_last me) refl)) b q
       go (no n) b q =
-          let t = set_other m.table next.table.holder i (task_after (is_last me) me heldNow) j n in
+          let t = set_other m.table next.table.holder i (task_after (is_last me) me held_now) j n in
           stored_other m i (step_answer m i) j n ∙ v j (sym (ap (λ k. k.busy) t) ∙ b) (subst (λ k. OneUnit k.op) t q)
 
 call_unstored : (m : Moment) → Sound m.table → AllUnstored m → (c : Call) → AllUnstored (called m c)

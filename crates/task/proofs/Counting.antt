@@ -15,43 +15,43 @@ use Rattle.types.specs.declared.refusal.Outcome.TheVariants as O
 use Rattle.field_unit.specs.Accesses.{Progress, progress, act}
 use Rattle.field_unit.specs.Calls.{plan_of, count_of, checked, Accepted, count, access_at, Stepped, stepped, held, next_access}
 use Rattle.field_unit.specs.declared.access.FieldOp.{FieldOp}
-use Rattle.field_unit.specs.declared.next.CountAnswer.{CountAnswer}
-use Rattle.field_unit.specs.declared.next.CountAnswer.TheVariants as C
+use Rattle.field_unit.specs.declared.whole.UnitWritten.{UnitWritten}
+use Rattle.field_unit.specs.declared.whole.UnitWritten.TheVariants as UW
 use Rattle.field_unit.specs.declared.next.Accessed.{Accessed}
 use Rattle.field_unit.specs.declared.next.Accessed.TheVariants as N
 
 -- ---- counting
 
-module _ (o : FieldOp) (size : ℕ) {x : CountAnswer} (p : x ≡ count o size) where
-  pub counted-accepted : (n : ℕ) → x ≡ C.Count n → Accepted o size
+module _ (o : FieldOp) (size : ℕ) {x : UnitWritten} (p : x ≡ count o size) where
+  pub counted_accepted : (n : ℕ) → x ≡ UW.Count n → Accepted o size
   unfolding count
-  counted-accepted n h = go (checked o size) refl
+  counted_accepted n h = go (checked o size) refl
     where
       go : (c : Outcome) → checked o size ≡ c → Accepted o size
       go O.Done e = e
       go (O.Refused r) e =
-          let q : C.Count n ≡ C.Refused r = sym h ∙ p ∙ ap (λ c. judged c (C.Count (count_of o)) C.Refused) e in
+          let q : UW.Count n ≡ UW.Refused r = sym h ∙ p ∙ ap (λ c. judged c (UW.Count (count_of o)) UW.Refused) e in
           let z : ◌≡◌ {A = ℕ} 0 1 = cc in
           let no : ⊥ = omega arith in absurd no
 
-  pub counted-refused : (r : Refusal) → x ≡ C.Refused r → checked o size ≡ O.Refused r
+  pub counted_refused : (r : Refusal) → x ≡ UW.Refused r → checked o size ≡ O.Refused r
   unfolding count
-  counted-refused r h = go (checked o size) refl
+  counted_refused r h = go (checked o size) refl
     where
       go : (c : Outcome) → checked o size ≡ c → c ≡ O.Refused r
       go O.Done e =
-          let q : C.Refused r ≡ C.Count (count_of o) = sym h ∙ p ∙ ap (λ c. judged c (C.Count (count_of o)) C.Refused) e in
+          let q : UW.Refused r ≡ UW.Count (count_of o) = sym h ∙ p ∙ ap (λ c. judged c (UW.Count (count_of o)) UW.Refused) e in
           let z : ◌≡◌ {A = ℕ} 0 1 = cc in
           let no : ⊥ = omega arith in absurd no
       go (O.Refused s) e =
-          let q : C.Refused r ≡ C.Refused s = sym h ∙ p ∙ ap (λ c. judged c (C.Count (count_of o)) C.Refused) e in
+          let q : UW.Refused r ≡ UW.Refused s = sym h ∙ p ∙ ap (λ c. judged c (UW.Count (count_of o)) UW.Refused) e in
           cc
 
-  pub counted-number : (n : ℕ) → x ≡ C.Count n → n ≡ count_of o
+  pub counted_number : (n : ℕ) → x ≡ UW.Count n → n ≡ count_of o
   unfolding count
-  counted-number n h =
-      let q : C.Count n ≡ C.Count (count_of o) =
-      sym h ∙ p ∙ ap (λ c. judged c (C.Count (count_of o)) C.Refused) (counted-accepted n h) in
+  counted_number n h =
+      let q : UW.Count n ≡ UW.Count (count_of o) =
+      sym h ∙ p ∙ ap (λ c. judged c (UW.Count (count_of o)) UW.Refused) (counted_accepted n h) in
       cc
 
 -- ---- the next access: of an operation that is accepted and not at its end, it is made
@@ -70,5 +70,5 @@ module _ (s : List ℕ) (o : FieldOp) (k h : ℕ) {a : Accessed} {s' : List ℕ}
   pub made_held : a ≡ N.Held (next o k h s).held
   made_held = ap (λ (z : Stepped). z.answer) made
 
-  pub made-region : s' ≡ (next o k h s).region
-  made-region = ap (λ (z : Stepped). z.region) made
+  pub made_region : s' ≡ (next o k h s).region
+  made_region = ap (λ (z : Stepped). z.region) made

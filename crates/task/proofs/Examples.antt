@@ -9,7 +9,6 @@ use mathlib.Core.List.{List, [], ◌∷◌}
 use lib.ListN.{length, get_or, take}
 use Rattle.bits.specs.Bits.{bit_of, bit_at, run, bytes, put, with_bits}
 use Rattle.types.specs.Flags.{access_width}
-use Rattle.types.specs.Limits.{most_bytes}
 use Rattle.types.specs.Refusals.{first_of}
 use Rattle.types.specs.declared.refusal.Refusal.TheVariants as R
 use Rattle.types.specs.declared.value.RegionSpace.TheVariants as S
@@ -126,7 +125,7 @@ write_lost = (refl, refl, refl, refl)
 
 -- demand 3 without its premise is false
 pub premise_needed :
-    ((s : List ℕ) (cs : List Call) → length s ≤ most_bytes → ((j : ℕ) → get_or s j 0 < 256) → AllEnded (ran (opening s) cs).table
+    ((s : List ℕ) (cs : List Call) → length s ≤ 65536 → ((j : ℕ) → get_or s j 0 < 256) → AllEnded (ran (opening s) cs).table
     → (ran (opening s) cs).region ≡ region_after (ops (ran (opening s) cs).finished) s)
     → ⊥
 premise_needed claim =

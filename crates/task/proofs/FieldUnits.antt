@@ -261,7 +261,7 @@ field_laws =
       good = λ x s b. with_bits_bytes s x.from x.width (bit_of x.number) (bit_of_lt x.number);
       frame = frame_law;
       quiet = quiet_law;
-      local-held = λ o k h s t a. held_law o k h s t a.on;
+      local_held = λ o k h s t a. held_law o k h s t a.on;
       local_at = λ o k h s t a c p. after_law o k h s t c a.same (a.on c p);
     }
 

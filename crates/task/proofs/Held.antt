@@ -80,33 +80,33 @@ not_first false c e q = absurd (true≢false (sym q))
 
 module _ (p : Plan) (u h g : ℕ) (e : (i : ℕ) → i < given p (Store u) → bit_of h i ≡ bit_of g i) where
   -- the unit that is stored, with x held
-  abbrev unitBit : ℕ → ℕ → ℕ
-  unitBit x = put (others p.rule (bit_of x)) (lo p u - base p u) (hi p u - lo p u) (from p.bits (lo p u - p.offset))
+  abbrev unit_bit : ℕ → ℕ → ℕ
+  unit_bit x = put (others p.rule (bit_of x)) (lo p u - base p u) (hi p u - lo p u) (from p.bits (lo p u - p.offset))
 
-  same_around : (i : ℕ) → others p.rule (bit_of h) i ≡ others p.rule (bit_of g) i → unitBit h i ≡ unitBit g i
+  same_around : (i : ℕ) → others p.rule (bit_of h) i ≡ others p.rule (bit_of g) i → unit_bit h i ≡ unit_bit g i
   same_around i q = put_cong _ _ (lo p u - base p u) (hi p u - lo p u) (from p.bits (lo p u - p.offset)) i q
 
-  loaded_bit : (i : ℕ) → i < p.width → loaded_first p u ≡ true → unitBit h i ≡ unitBit g i
+  loaded_bit : (i : ℕ) → i < p.width → loaded_first p u ≡ true → unit_bit h i ≡ unit_bit g i
   loaded_bit i l q = same_around i (others_same p.rule (bit_of h) (bit_of g) i (e i (rw q l)))
 
-  covered_bit : (i : ℕ) → i < p.width → covered p u ≡ true → unitBit h i ≡ unitBit g i
+  covered_bit : (i : ℕ) → i < p.width → covered p u ≡ true → unit_bit h i ≡ unit_bit g i
   covered_bit i l q =
       let (a, b) = and_both (leb p.offset (base p u)) _ q in
       let (c, d) = covers p.offset p.size (base p u) p.width i (leb-true _ _ a) (leb-true _ _ b) l in
       put_in _ (lo p u - base p u) (hi p u - lo p u) (from p.bits (lo p u - p.offset)) i c d
       ∙ sym (put_in _ (lo p u - base p u) (hi p u - lo p u) (from p.bits (lo p u - p.offset)) i c d)
 
-  unit_bit : (i : ℕ) → i < p.width → unitBit h i ≡ unitBit g i
-  unit_bit i l = go (loaded_first p u) refl (keeps p.rule) refl
+  unit_bit_lem : (i : ℕ) → i < p.width → unit_bit h i ≡ unit_bit g i
+  unit_bit_lem i l = go (loaded_first p u) refl (keeps p.rule) refl
     where
-      go : (b : Bool) → loaded_first p u ≡ b → (c : Bool) → keeps p.rule ≡ c → unitBit h i ≡ unitBit g i
+      go : (b : Bool) → loaded_first p u ≡ b → (c : Bool) → keeps p.rule ≡ c → unit_bit h i ≡ unit_bit g i
       go true q c r = loaded_bit i l q
       go false q false r = same_around i (others_any p.rule (bit_of h) (bit_of g) i r)
       go false q true r = covered_bit i l (not_first (keeps p.rule) (covered p u) q r)
 
   merged_below : merged p u h ≡ merged p u g
   unfolding merged
-  merged_below = run_ext (unitBit h) (unitBit g) 0 0 p.width (λ i l. rw (zero-add i) (unit_bit i l))
+  merged_below = run_ext (unit_bit h) (unit_bit g) 0 0 p.width (λ i l. rw (zero-add i) (unit_bit_lem i l))
 
 -- an access goes only by that many of the held bits
 pub held_below : (p : Plan) (a : Access) (s : List ℕ) (h g : ℕ) → ((i : ℕ) → i < given p a → bit_of h i ≡ bit_of g i)

@@ -1,6 +1,6 @@
 pub mod FieldUnits
 pub mod Counting
-pub mod TableTests
+pub mod Malformed
 pub mod Answers
 pub mod Accepted
 pub mod Calls

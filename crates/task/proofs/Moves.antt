@@ -81,14 +81,14 @@ module _ (m : Moment) (s : Sound m.table) (i : ℕ) (p : StepPassed m.table i) w
   me = task_at t i
 
   -- what is held after the access; the task and the holder after it
-  abbrev heldNow : ℕ
-  heldNow = (accessed me m.region).held
+  abbrev held_now : ℕ
+  held_now = (accessed me m.region).held
 
-  abbrev taskNow : Task
-  taskNow = task_after (is_last me) me heldNow
+  abbrev task_now : Task
+  task_now = task_after (is_last me) me held_now
 
-  abbrev holderNow : ℕ
-  holderNow = (stepped_table t i heldNow).holder
+  abbrev holder_now : ℕ
+  holder_now = (stepped_table t i held_now).holder
 
   left : me.made < count_of me.op
   left = (s.healthy i p.busy).1
@@ -107,18 +107,18 @@ module _ (m : Moment) (s : Sound m.table) (i : ℕ) (p : StepPassed m.table i) w
       record {
         busy = p.busy;
         others = λ j n.
-            let e = set_other t holderNow i taskNow j n in
+            let e = set_other t holder_now i task_now j n in
             λ x. slot_of (e x) (stored_other m i (step_answer m i) j n x);
         state = region_at me.op me.made me.held m.region left;
         free = free;
       }
 
   -- the task's own record after the access
-  here_now : task_at (after_access m i).table i ≡ taskNow
-  here_now = set_this t holderNow i taskNow within
+  here_now : task_at (after_access m i).table i ≡ task_now
+  here_now = set_this t holder_now i task_now within
 
-  held_now : heldNow ≡ fields.load me.op me.made me.held m.region
-  held_now = held_after me.op me.made me.held m.region left
+  held_now_lem : held_now ≡ fields.load me.op me.made me.held m.region
+  held_now_lem = held_after me.op me.made me.held m.region left
 
   step_more : is_last me ≡ false → Move fields (view m) (view (after_access m i))
   step_more e =
@@ -127,29 +127,29 @@ module _ (m : Moment) (s : Sound m.table) (i : ℕ) (p : StepPassed m.table i) w
         busy = (task x).busy;
         op = (task x).op;
         made = (ap (λ k. k.made) task ∙ add-one me.made) x;
-        held = (ap (λ k. k.held) task ∙ held_now) x;
+        held = (ap (λ k. k.held) task ∙ held_now_lem) x;
         done = (ap (λ a. stored_by m i a i) answer ∙ change_this m.stored i (m.stored i ++ next_store me) ∙ ap (λ l. m.stored i ++ l) stores_now) x;
       })
       (ap (λ a. ended (m.finished ++ ends me.op a)) answer ∙ ap ended (append-nil m.finished))
     where
-      task : task_at (after_access m i).table i ≡ record { busy = true; op = me.op; made = me.made + 1; held = heldNow }
-      task = here_now ∙ ap (λ b. task_after b me heldNow) e
+      task : task_at (after_access m i).table i ≡ record { busy = true; op = me.op; made = me.made + 1; held = held_now }
+      task = here_now ∙ ap (λ b. task_after b me held_now) e
 
       answer : step_answer m i ≡ ST.More
-      answer = ap (λ b. answer_after b me.op.write heldNow) e
+      answer = ap (λ b. answer_after b me.op.write held_now) e
 
   step_last : is_last me ≡ true → Move fields (view m) (view (after_access m i))
   step_last e =
       last i next_access
-      (ap (λ k. k.busy) (here_now ∙ ap (λ b. task_after b me heldNow) e))
+      (ap (λ k. k.busy) (here_now ∙ ap (λ b. task_after b me held_now) e))
       (sym (add-one me.made) ∙ eqb-true _ _ e)
       (ended_append m.finished _ ∙ ap (λ l. ended m.finished ++ l) (ap (λ a. ended (ends me.op a)) answer ∙ ends_with me.op _))
     where
       answer : step_answer m i ≡ last_answer me.op (fields.load me.op me.made me.held m.region)
       answer =
-          ap (λ b. answer_after b me.op.write heldNow) e
-          ∙ answer_last me.op heldNow
-          ∙ ap (last_answer me.op) held_now
+          ap (λ b. answer_after b me.op.write held_now) e
+          ∙ answer_last me.op held_now
+          ∙ ap (last_answer me.op) held_now_lem
 
   step_move : Move fields (view m) (view (after_access m i))
   step_move = go (is_last me) refl

@@ -11,7 +11,6 @@ use mathlib.Core.List.{List, [], ◌∷◌}
 use lib.Dec.{ltb, eqb}
 use lib.ListN.{length, take}
 use borrow.Author.Tests.{lt-ltb, ne_eqb}
-use Rattle.types.specs.Limits.{most_bytes}
 use Rattle.field_unit.specs.Accesses.{first, last}
 use Rattle.field_unit.specs.Calls.{plan_of}
 use Rattle.field_unit.specs.declared.access.FieldOp.{FieldOp}
@@ -103,5 +102,5 @@ agreed_from_lem m s [] e (suc n) = agreed m.table s e
 agreed_from_lem m s (c ∷ cs) e zero = agreed m.table s (and_both (agreed_test m.table) _ e).0
 agreed_from_lem m s (c ∷ cs) e (suc n) = agreed_from_lem (called m c) (sound_call m s c) cs (and_both (agreed_test m.table) _ e).1 n
 
-pub agreed_throughout : (s : List ℕ) (cs : List Call) → length s ≤ most_bytes → agreed_from (opening s) cs ≡ true → AgreedThroughout s cs
+pub agreed_throughout : (s : List ℕ) (cs : List Call) → length s ≤ 65536 → agreed_from (opening s) cs ≡ true → AgreedThroughout s cs
 agreed_throughout s cs h e = agreed_from_lem (opening s) (sound_fresh (length s) h) cs e

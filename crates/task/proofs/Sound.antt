@@ -14,7 +14,6 @@ use lib.ListN.{length, length-set, get_or-eq_default}
 use lib.Seq.{get_or-set_same, get_or-set_other}
 use borrow.Author.Tests.{eqb-true, eqb-false, le-ltb, lt-ltb, lt-leb, eq-eqb}
 use Rattle.bits.proofs.Laws.{lt_cases}
-use Rattle.types.specs.Limits.{most_bytes}
 use Rattle.types.specs.Refusals.{first_of}
 use Rattle.types.specs.declared.refusal.Outcome.{Outcome}
 use Rattle.types.specs.declared.refusal.Outcome.TheVariants as O
@@ -34,7 +33,7 @@ Healthy n k = k.busy ≡ true → Accepted k.op n × (k.made < count_of k.op)
 
 pub record Sound (t : Table) : Type 0 where
   pub four : length t.tasks ≡ 4
-  pub size : t.size ≤ most_bytes
+  pub size : t.size ≤ 65536
   pub healthy : (j : ℕ) → Healthy t.size (task_at t j)
   pub right : (j : ℕ) → locks (task_at t j) ≡ true → t.holder ≡ j
   pub held : (t.holder ≡ 4) ⊎ (locks (task_at t t.holder) ≡ true)
@@ -86,10 +85,10 @@ module _ (t : Table) (s : Sound t) where
       go true e = let (a, l) = s.healthy j e in rw e (or_false _ _ (ap refused a) (lt-leb _ _ l))
       go false e = rw e refl
 
-  pub not-malformed : malformed t ≡ false
+  pub not_malformed : malformed t ≡ false
   unfolding malformed
-  not-malformed =
-      or_false _ _ (le-ltb most_bytes t.size s.size)
+  not_malformed =
+      or_false _ _ (le-ltb 65536 t.size s.size)
       (or_false _ _ (good_task 0) (or_false _ _ (good_task 1) (or_false _ _ (good_task 2) (or_false _ _ (good_task 3)
       (holder_right (locks (task_at t 0)) (locks (task_at t 1)) (locks (task_at t 2)) (locks (task_at t 3)) t.holder
       (s.right 0) (s.right 1) (s.right 2) (s.right 3) free_holder)))))
@@ -103,7 +102,7 @@ fresh_idle n (suc (suc zero)) = refl
 fresh_idle n (suc (suc (suc zero))) = refl
 fresh_idle n (suc (suc (suc (suc j)))) = refl
 
-pub sound_fresh : (n : ℕ) → n ≤ most_bytes → Sound (fresh n)
+pub sound_fresh : (n : ℕ) → n ≤ 65536 → Sound (fresh n)
 sound_fresh n h =
     record {
       four = refl;
@@ -175,8 +174,8 @@ module _ (t : Table) (s : Sound t) (i : ℕ) (p : StepPassed t i) where
     abbrev next : Bool → Task
     next b = task_after b me h
 
-    abbrev nextTable : Bool → Bool → Table
-    nextTable b l = with_task t (holder_after l b i t.holder) i (next b)
+    abbrev next_table : Bool → Bool → Table
+    next_table b l = with_task t (holder_after l b i t.holder) i (next b)
 
     next_healthy : (b : Bool) → is_last me ≡ b → Healthy t.size (next b)
     next_healthy true e q = absurd (true≢false (sym q))
@@ -184,7 +183,7 @@ module _ (t : Table) (s : Sound t) (i : ℕ) (p : StepPassed t i) where
         let (a, l) = s.healthy i p.busy in
         (a, omega (arith, l, eqb-false (me.made + 1) (count_of me.op) e))
 
-    next_right : (b l : Bool) → carries_lock me.op ≡ l → (j : ℕ) → locks (task_at (nextTable b l) j) ≡ true → (nextTable b l).holder ≡ j
+    next_right : (b l : Bool) → carries_lock me.op ≡ l → (j : ℕ) → locks (task_at (next_table b l) j) ≡ true → (next_table b l).holder ≡ j
     next_right b true e =
         by_task t (holder_after true b i t.holder) i (next b) (within t s i p.small (next b))
         (λ j k. locks k ≡ true → holder_after true b i t.holder ≡ j)
@@ -201,7 +200,7 @@ module _ (t : Table) (s : Sound t) (i : ℕ) (p : StepPassed t i) where
         here true q = true≢false (sym q)
         here false q = true≢false (sym (and_both (carries_lock me.op) _ q).0 ∙ e)
 
-    next_held : (b l : Bool) → carries_lock me.op ≡ l → ((nextTable b l).holder ≡ 4) ⊎ (locks (task_at (nextTable b l) (nextTable b l).holder) ≡ true)
+    next_held : (b l : Bool) → carries_lock me.op ≡ l → ((next_table b l).holder ≡ 4) ⊎ (locks (task_at (next_table b l) (next_table b l).holder) ≡ true)
     next_held true true e = inl refl
     next_held false true e =
         inr (ap locks (set_this t i i (next false) (within t s i p.small (next false))) ∙ and_true _ _ e (lt-ltb 0 (me.made + 1) (omega arith)))
@@ -209,12 +208,12 @@ module _ (t : Table) (s : Sound t) (i : ℕ) (p : StepPassed t i) where
         still_held t s i p.small (next b) t.holder
         (λ q. true≢false (sym (and_both (carries_lock me.op) _ (and_both me.busy _ q).1).0 ∙ e)) s.held
 
-    pub sound-step : Sound (stepped_table t i h)
-    sound-step =
+    pub sound_step : Sound (stepped_table t i h)
+    sound_step =
         record {
           four = length-set t.tasks i _ ∙ s.four;
           size = s.size;
-          healthy = by_task t (nextTable (is_last me) (carries_lock me.op)).holder i (next (is_last me))
+          healthy = by_task t (next_table (is_last me) (carries_lock me.op)).holder i (next (is_last me))
               (within t s i p.small (next (is_last me))) (λ j. Healthy t.size)
               (next_healthy (is_last me) refl) (λ j n. s.healthy j);
           right = next_right (is_last me) (carries_lock me.op) refl;
@@ -232,7 +231,7 @@ sound_call m s (start_call i o) = go (first_of (start_checks m.table m.region i 
 sound_call m s (step_call i) = go (first_of (step_checks m.table m.region i)) refl
   where
     go : (r : Outcome) → first_of (step_checks m.table m.region i) ≡ r → Sound (called m (step_call i)).table
-    go O.Done e = subst (λ d. Sound d.table) (sym (step_accepted m i e)) (sound-step m.table s i (step_passed m.table m.region i e) _)
+    go O.Done e = subst (λ d. Sound d.table) (sym (step_accepted m i e)) (sound_step m.table s i (step_passed m.table m.region i e) _)
     go (O.Refused r) e = subst (λ d. Sound d.table) (sym (step_refused m i r e)) s
 
 pub sound_run : (m : Moment) → Sound m.table → (cs : List Call) → Sound (ran m cs).table
@@ -240,4 +239,4 @@ sound_run m s [] = s
 sound_run m s (c ∷ cs) = sound_run (called m c) (sound_call m s c) cs
 
 pub never_malformed : NeverMalformed
-never_malformed s cs h = not-malformed _ (sound_run (opening s) (sound_fresh (length s) h) cs)
+never_malformed s cs h = not_malformed _ (sound_run (opening s) (sound_fresh (length s) h) cs)

@@ -6,10 +6,9 @@ use mathlib.Core.Path.{◌≡◌, refl, sym, ap, ◌∙◌}
 use mathlib.Core.Bool.{false, cond}
 use mathlib.Core.List.{List, [], ◌∷◌}
 use lib.ListN.{length}
-use Rattle.types.specs.Limits.{most_bytes}
 use Rattle.field_unit.specs.declared.access.FieldOp.{FieldOp}
 use Rattle.together.specs.System as T
-use Rattle.together.proofs.Interleaved.{at-every-moment}
+use Rattle.together.proofs.Interleaved.{at_every_moment}
 use Rattle.task.specs.Tasks.{task_at}
 use Rattle.task.specs.Runs.{Call, StoreMade, Finished, Moment, opening, ran, AgreedThroughout, whole_region, whole_answer, region_after, answers_of, ops, answers, stores_on, under_way, all_under_way, TogetherAsOneAfterAnother, AtEveryMoment}
 use Rattle.task.proofs.FieldUnits.{Bytes, last_answer, fields, field_laws, first_whole}
@@ -18,15 +17,15 @@ use Rattle.task.proofs.Moves.{ended, view, follow}
 
 -- ---- the system's words are those of the statement
 
-whole_region_lem : (o : FieldOp) (s : List ℕ) → T.wholeState fields o s ≡ whole_region o s
+whole_region_lem : (o : FieldOp) (s : List ℕ) → T.whole_state fields o s ≡ whole_region o s
 whole_region_lem o s = sym (ap (λ x. x.region) (first_whole o s))
 
 whole_answer_lem : (o : FieldOp) (s : List ℕ) → T.whole_answer fields o s ≡ whole_answer o s
 whole_answer_lem o s = sym (ap (λ x. last_answer o x.held) (first_whole o s))
 
-region_after_lem : (os : List FieldOp) (s : List ℕ) → T.stateAfter fields os s ≡ region_after os s
+region_after_lem : (os : List FieldOp) (s : List ℕ) → T.state_after fields os s ≡ region_after os s
 region_after_lem [] s = refl
-region_after_lem (o ∷ os) s = ap (T.stateAfter fields os) (whole_region_lem o s) ∙ region_after_lem os (whole_region o s)
+region_after_lem (o ∷ os) s = ap (T.state_after fields os) (whole_region_lem o s) ∙ region_after_lem os (whole_region o s)
 
 answers_of_lem : (os : List FieldOp) (s : List ℕ) → T.answers_of fields os s ≡ answers_of os s
 answers_of_lem [] s = refl
@@ -38,7 +37,7 @@ ops_ended : (l : List Finished) → T.ops_of fields (ended l) ≡ ops l
 ops_ended [] = refl
 ops_ended (f ∷ l) = ap (λ r. f.op ∷ r) (ops_ended l)
 
-answers_ended : (l : List Finished) → T.gotOf fields (ended l) ≡ answers l
+answers_ended : (l : List Finished) → T.got_of fields (ended l) ≡ answers l
 answers_ended [] = refl
 answers_ended (f ∷ l) = ap (λ r. f.got ∷ r) (answers_ended l)
 
@@ -55,7 +54,7 @@ all_under_way_lem m s = under_way_lem m 3 _ _ (under_way_lem m 2 _ _ (under_way_
 
 -- ---- the theorems
 
-module _ (s : List ℕ) (cs : List Call) (small : length s ≤ most_bytes) (b : Bytes s) (a : AgreedThroughout s cs) where
+module _ (s : List ℕ) (cs : List Call) (small : length s ≤ 65536) (b : Bytes s) (a : AgreedThroughout s cs) where
   abbrev now : Moment
   now = ran (opening s) cs
 
@@ -69,7 +68,7 @@ module _ (s : List ℕ) (cs : List Call) (small : length s ≤ most_bytes) (b : 
       → (now.region ≡ T.overlay fields (view now).slots n (region_after (ops now.finished) s))
       × (answers now.finished ≡ answers_of (ops now.finished) s)
   both n idle =
-      let (r, g) = at-every-moment fields field_laws n (view (opening s)) (view now) b fresh moves idle in
+      let (r, g) = at_every_moment fields field_laws n (view (opening s)) (view now) b fresh moves idle in
       let os = T.ops_of fields (ended now.finished) in (
         r ∙ ap (T.overlay fields (view now).slots n) (region_after_lem os s ∙ ap (λ l. region_after l s) (ops_ended now.finished)),
         sym (answers_ended now.finished) ∙ g ∙ answers_of_lem os s ∙ ap (λ l. answers_of l s) (ops_ended now.finished),

@@ -1,4 +1,4 @@
 pub mod Tasks
-pub mod Turns
+pub mod One
 pub mod Runs
 pub mod Held

@@ -2,7 +2,6 @@
 -- Assumes nothing.
 use Rattle.std.specs.Prelude.{ℕ, ◌+◌, ◌*◌, ◌≤◌, ◌<◌, ◌≡◌, ◌⊎◌, true, false, cond, List, [], ◌∷◌, ◌++◌, map, eqb, length, get_or, take}
 use Rattle.bits.specs.Bits.{set_bits}
-use Rattle.types.specs.Limits.{most_bytes}
 use Rattle.field_unit.specs.Accesses.{Plan, base, first, last, merged, whole}
 use Rattle.field_unit.specs.Calls.{plan_of, access_at}
 use Rattle.field_unit.specs.declared.access.Access.{Access}
@@ -154,7 +153,7 @@ all_under_way m s = under_way m 3 (under_way m 2 (under_way m 1 (under_way m 0 s
 -- DEMAND 3: once all accepted operations have ended, the region and every value read are those of running them whole, in finish order
 abbrev pub TogetherAsOneAfterAnother : Type 0
 TogetherAsOneAfterAnother =
-    (s : List ℕ) (cs : List Call) → length s ≤ most_bytes → ((j : ℕ) → get_or s j 0 < 256) → AgreedThroughout s cs
+    (s : List ℕ) (cs : List Call) → length s ≤ 65536 → ((j : ℕ) → get_or s j 0 < 256) → AgreedThroughout s cs
     → AllEnded (ran (opening s) cs).table
     → ((ran (opening s) cs).region ≡ region_after (ops (ran (opening s) cs).finished) s)
     × (answers (ran (opening s) cs).finished ≡ answers_of (ops (ran (opening s) cs).finished) s)
@@ -162,17 +161,17 @@ TogetherAsOneAfterAnother =
 -- AFTER ANY NUMBER OF CALLS: the region is the finished operations run whole, then the stores of those under way
 abbrev pub AtEveryMoment : Type 0
 AtEveryMoment =
-    (s : List ℕ) (cs : List Call) → length s ≤ most_bytes → ((j : ℕ) → get_or s j 0 < 256) → AgreedThroughout s cs
+    (s : List ℕ) (cs : List Call) → length s ≤ 65536 → ((j : ℕ) → get_or s j 0 < 256) → AgreedThroughout s cs
     → (ran (opening s) cs).region ≡ all_under_way (ran (opening s) cs) (region_after (ops (ran (opening s) cs).finished) s)
 
 -- A WRITE THAT STORES ONE UNIT is absent or complete: as long as it is under way it has stored nothing
 abbrev pub AbsentOrComplete : Type 0
 AbsentOrComplete =
-    (s : List ℕ) (cs : List Call) → length s ≤ most_bytes → (i : ℕ)
+    (s : List ℕ) (cs : List Call) → length s ≤ 65536 → (i : ℕ)
     → (task_at (ran (opening s) cs).table i).op.write ≡ true
     → first (plan_of (task_at (ran (opening s) cs).table i).op) ≡ last (plan_of (task_at (ran (opening s) cs).table i).op)
     → (r : List ℕ) → under_way (ran (opening s) cs) i r ≡ r
 
 -- NO TABLE that calls reach from a fresh one is malformed
 abbrev pub NeverMalformed : Type 0
-NeverMalformed = (s : List ℕ) (cs : List Call) → length s ≤ most_bytes → malformed (ran (opening s) cs).table ≡ false
+NeverMalformed = (s : List ℕ) (cs : List Call) → length s ≤ 65536 → malformed (ran (opening s) cs).table ≡ false

@@ -2,7 +2,6 @@
 -- Assumes nothing.
 use Rattle.std.specs.Prelude.{ℕ, ◌+◌, Bool, true, false, cond, ◌&&◌, ◌||◌, not, List, [], ◌∷◌, ◌++◌, leb, ltb, eqb, length, get_or, set, replicate}
 use Rattle.types.specs.Flags.{lock_rule}
-use Rattle.types.specs.Limits.{too_many}
 use Rattle.types.specs.Refusals.{Checks, first_of, judged}
 use Rattle.types.specs.declared.refusal.Refusal.TheVariants as R
 use Rattle.types.specs.declared.refusal.Outcome.{Outcome}
@@ -44,7 +43,7 @@ fresh n = record { size = n; holder = 4; tasks = replicate 4 idle }
 -- 27: "a new table's region length, over 65,536 bytes"
 unfoldable pub new_table : ℕ → Made
 new_table n =
-    judged (first_of ((too_many n, R.TooManyBytes) ∷ [])) (record { table = fresh n; answer = O.Done })
+    judged (first_of ((ltb 65536 n, R.TooManyBytes) ∷ [])) (record { table = fresh n; answer = O.Done })
     (λ r. record { table = fresh 0; answer = O.Refused r })
 
 -- ---- a malformed table
@@ -83,7 +82,7 @@ bad_task n k = k.busy && (refused (checked k.op n) || leb (count_of k.op) k.made
 -- "its region length is over 65,536; or .."; by the length, the holder and the tasks
 abbrev pub malformed_by : ℕ → ℕ → Task → Task → Task → Task → Bool
 malformed_by n h a b c d =
-    too_many n || (bad_task n a || (bad_task n b || (bad_task n c || (bad_task n d || wrong_holder (lockers_of a b c d) h))))
+    ltb 65536 n || (bad_task n a || (bad_task n b || (bad_task n c || (bad_task n d || wrong_holder (lockers_of a b c d) h))))
 
 unfoldable pub malformed : Table → Bool
 malformed t = malformed_by t.size t.holder (task_at t 0) (task_at t 1) (task_at t 2) (task_at t 3)
@@ -93,7 +92,7 @@ malformed t = malformed_by t.size t.holder (task_at t 0) (task_at t 1) (task_at 
 -- by whether the table is malformed, and the length that it names
 abbrev pub call_checks_by : Bool → ℕ → ℕ → ℕ → Checks
 call_checks_by bad size n i =
-    (too_many n, R.TooManyBytes)
+    (ltb 65536 n, R.TooManyBytes)
     ∷ (bad, R.MalformedTable)
     ∷ (ltb 3 i, R.NoSuchTask)
     ∷ (not (eqb n size), R.RegionLengthDiffers)

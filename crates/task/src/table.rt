@@ -3,10 +3,9 @@ ghost use Rattle.std.specs.Prelude.{◌≡◌, ◌<◌};
 ghost use Rattle.types.specs.Refusals.{first_of};
 ghost use Rattle.task.specs.Tasks as T;
 
-use crate::turn::{check_call, start_task, step_task};
+use crate::one::{check_call, start_task, step_task};
 use field_unit::access::FieldOp;
 use types::flags::FieldFlags;
-use types::limit::MOST_BYTES;
 use types::refusal::{Outcome, Refusal};
 use types::value::{FieldUnit, RegionSpace};
 
@@ -101,7 +100,7 @@ impl Table {
     pub fn new(size: u64) -> Made
         ensures { result ≡ T.new_table size }
     {
-        if (MOST_BYTES as u64) < size {
+        if 65536 < size {
             return Made {
                 table: fresh(0),
                 answer: Outcome::Refused(Refusal::TooManyBytes),

@@ -11,7 +11,6 @@ use borrow.Author.Tests.{lt-ltb, le-ltb, ltb-true}
 use lib.Dec.{ltb}
 use lib.ListN.{length, set, drop, length-append, drop_of_length-le}
 use lib.Seq.{drop-cons, get_or-set_same, drop-set-lt, lt-length-set}
-use Rattle.bits.specs.Integers.{integer_bits}
 use Rattle.text.specs.Texts.{digit_of, all_digits, value_from, number_of}
 use Rattle.text.specs.declared.Number.TheVariants.{Is}
 use Rattle.text.specs.Written.{decimal_digits, decimal_text}
@@ -67,8 +66,8 @@ module _ (d : List ℕ) (k n : ℕ) (h : k < length d) where
       ∙ sym (append_assoc (decimal_digits k (n / 10)) ((48 + n % 10) ∷ []) (drop (k + 1) d))
       ∙ ap (λ (t : List ℕ). t ++ drop (k + 1) d) (sym (many k n l))
 
-  pub digits-end : n < 10 → drop k (set d k (48 + n)) ≡ decimal_digits (k + 1) n ++ drop (k + 1) d
-  digits-end l = stored d k (48 + n) h ∙ ap (λ (t : List ℕ). t ++ drop (k + 1) d) (sym (single k n l))
+  pub digits_end : n < 10 → drop k (set d k (48 + n)) ≡ decimal_digits (k + 1) n ++ drop (k + 1) d
+  digits_end l = stored d k (48 + n) h ∙ ap (λ (t : List ℕ). t ++ drop (k + 1) d) (sym (single k n l))
 
 -- more than one digit left: the tenth has one less
 pub deeper : (k n : ℕ) → 10 ≤ n → n < 10 ^ (k + 1) → 1 ≤ k
@@ -141,7 +140,7 @@ unfolding decimal_text
 text_all n = digits_all 20 n
 
 -- a written number reads as itself
-pub decimal_read : (n : ℕ) → n < 2 ^ integer_bits → number_of integer_bits 10 (decimal_text n) ≡ Is n
+pub decimal_read : (n : ℕ) → n < 2 ^ 64 → number_of 10 (decimal_text n) ≡ Is n
 decimal_read n h =
     let e : value_from 10 0 (decimal_text n) ≡ n = text_value n (omega arith) in
-    good integer_bits 10 (decimal_text n) (omega (arith, decimal_least n)) (text_all n) (omega arith) ∙ ap Is e
+    good 10 (decimal_text n) (omega (arith, decimal_least n)) (text_all n) (omega arith) ∙ ap Is e

@@ -19,17 +19,17 @@ and_false false = refl
 
 -- ---- one digit more
 module _ (b : ℕ) (s : List ℕ) (i : ℕ) (h : i < length s) where
-  pub value-step : (acc : ℕ) → value_from b acc (drop i s) ≡ value_from b (acc * b + digit_of (get_or s i 0)) (drop (i + 1) s)
+  pub value_step : (acc : ℕ) → value_from b acc (drop i s) ≡ value_from b (acc * b + digit_of (get_or s i 0)) (drop (i + 1) s)
   unfolding value_from
-  value-step acc = rw (add-one, drop-cons s i 0)
+  value_step acc = rw (add-one, drop-cons s i 0)
 
   pub digits_step : digit_of (get_or s i 0) < b → all_digits b (drop i s) ≡ all_digits b (drop (i + 1) s)
   unfolding all_digits
   digits_step l = rw (add-one, drop-cons s i 0, lt-ltb _ _ l)
 
-  pub digits-stop : b ≤ digit_of (get_or s i 0) → all_digits b (drop i s) ≡ false
+  pub digits_stop : b ≤ digit_of (get_or s i 0) → all_digits b (drop i s) ≡ false
   unfolding all_digits
-  digits-stop l = rw (drop-cons s i 0, le-ltb _ _ l)
+  digits_stop l = rw (drop-cons s i 0, le-ltb _ _ l)
 
 -- ---- no digit left
 pub value_none : (b acc : ℕ) → value_from b acc [] ≡ acc
@@ -47,28 +47,28 @@ value_grows b acc [] h = le_refl acc
 value_grows b acc (c ∷ s) h = le_trans (omega (arith, mul-le-mul_left acc h, mul-one acc)) (value_grows b (acc * b + digit_of c) s h)
 
 -- ---- the cases of a text
-module _ (w b : ℕ) (s : List ℕ) where
-  pub bad-empty : length s ≡ 0 → number_of w b s ≡ Bad
+module _ (b : ℕ) (s : List ℕ) where
+  pub bad_empty : length s ≡ 0 → number_of b s ≡ Bad
   unfolding number_of
-  bad-empty e = let h : length s ≤ 0 = omega arith in simp (le-ltb _ _ h)
+  bad_empty e = let h : length s ≤ 0 = omega arith in simp (le-ltb _ _ h)
 
-  pub bad-digit : all_digits b s ≡ false → number_of w b s ≡ Bad
+  pub bad_digit : all_digits b s ≡ false → number_of b s ≡ Bad
   unfolding number_of
-  bad-digit e = simp (e, and_false)
+  bad_digit e = simp (e, and_false)
 
-  pub bad-large : 2 ^ w ≤ value_from b 0 s → number_of w b s ≡ Bad
+  pub bad_large : 2 ^ 64 ≤ value_from b 0 s → number_of b s ≡ Bad
   unfolding number_of
-  bad-large h = simp (le-ltb _ _ h, and_false)
+  bad_large h = simp (le-ltb _ _ h, and_false)
 
-  pub good : 0 < length s → all_digits b s ≡ true → value_from b 0 s < 2 ^ w → number_of w b s ≡ Is (value_from b 0 s)
+  pub good : 0 < length s → all_digits b s ≡ true → value_from b 0 s < 2 ^ 64 → number_of b s ≡ Is (value_from b 0 s)
   unfolding number_of
   good h e l = simp (lt-ltb _ _ h, e, lt-ltb _ _ l)
 
 -- ---- a character, by where it stands among the bounds of the three ranges
 module _ (c : ℕ) where
-  pub below-digits : c < 48 → 255 ≡ digit_of c
+  pub below_digits : c < 48 → 255 ≡ digit_of c
   unfolding digit_of
-  below-digits a = simp (lt-ltb _ _ a)
+  below_digits a = simp (lt-ltb _ _ a)
 
   module _ (a : 48 ≤ c) where
     pub decimal_digit : c < 58 → c - 48 ≡ digit_of c
@@ -76,25 +76,25 @@ module _ (c : ℕ) where
     decimal_digit b = simp (le-ltb _ _ a, lt-ltb _ _ b)
 
     module _ (b : 58 ≤ c) where
-      pub below-upper : c < 65 → 255 ≡ digit_of c
+      pub below_upper : c < 65 → 255 ≡ digit_of c
       unfolding digit_of
-      below-upper d = simp (le-ltb _ _ a, le-ltb _ _ b, lt-ltb _ _ d)
+      below_upper d = simp (le-ltb _ _ a, le-ltb _ _ b, lt-ltb _ _ d)
 
       module _ (d : 65 ≤ c) where
-        pub upper-digit : c < 71 → c - 55 ≡ digit_of c
+        pub upper_digit : c < 71 → c - 55 ≡ digit_of c
         unfolding digit_of
-        upper-digit e = simp (le-ltb _ _ a, le-ltb _ _ b, le-ltb _ _ d, lt-ltb _ _ e)
+        upper_digit e = simp (le-ltb _ _ a, le-ltb _ _ b, le-ltb _ _ d, lt-ltb _ _ e)
 
         module _ (e : 71 ≤ c) where
-          pub below-lower : c < 97 → 255 ≡ digit_of c
+          pub below_lower : c < 97 → 255 ≡ digit_of c
           unfolding digit_of
-          below-lower f = simp (le-ltb _ _ a, le-ltb _ _ b, le-ltb _ _ d, le-ltb _ _ e, lt-ltb _ _ f)
+          below_lower f = simp (le-ltb _ _ a, le-ltb _ _ b, le-ltb _ _ d, le-ltb _ _ e, lt-ltb _ _ f)
 
           module _ (f : 97 ≤ c) where
-            pub lower-digit : c < 103 → c - 87 ≡ digit_of c
+            pub lower_digit : c < 103 → c - 87 ≡ digit_of c
             unfolding digit_of
-            lower-digit g = simp (le-ltb _ _ a, le-ltb _ _ b, le-ltb _ _ d, le-ltb _ _ e, le-ltb _ _ f, lt-ltb _ _ g)
+            lower_digit g = simp (le-ltb _ _ a, le-ltb _ _ b, le-ltb _ _ d, le-ltb _ _ e, le-ltb _ _ f, lt-ltb _ _ g)
 
-            pub above-digits : 103 ≤ c → 255 ≡ digit_of c
+            pub above_digits : 103 ≤ c → 255 ≡ digit_of c
             unfolding digit_of
-            above-digits g = simp (le-ltb _ _ a, le-ltb _ _ b, le-ltb _ _ d, le-ltb _ _ e, le-ltb _ _ f, le-ltb _ _ g)
+            above_digits g = simp (le-ltb _ _ a, le-ltb _ _ b, le-ltb _ _ d, le-ltb _ _ e, le-ltb _ _ f, le-ltb _ _ g)

@@ -63,14 +63,14 @@ module _ (s : List ℕ) where
   is_missing (line l rest) f g = let z : ◌≡◌ {A = ℕ} 0 1 = cc in absurd (omega arith)
 
   module _ (r : LineAnswer) (e : r ≡ length_of (line_of s)) where
-    pub line-is : (n : ℕ) → r ≡ Is n → line_of s ≡ line (take n s) (drop (n + 1) s)
-    line-is n f = is_at (line_of s) refl n (sym e ∙ f)
+    pub line_is : (n : ℕ) → r ≡ Is n → line_of s ≡ line (take n s) (drop (n + 1) s)
+    line_is n f = is_at (line_of s) refl n (sym e ∙ f)
 
-    pub line-inside : (n : ℕ) → r ≡ Is n → n < length s
-    line-inside n f = is_inside (line_of s) refl n (sym e ∙ f)
+    pub line_inside : (n : ℕ) → r ≡ Is n → n < length s
+    line_inside n f = is_inside (line_of s) refl n (sym e ∙ f)
 
-    pub line-missing : r ≡ Missing → line_of s ≡ missing
-    line-missing f = is_missing (line_of s) refl (sym e ∙ f)
+    pub line_missing : r ≡ Missing → line_of s ≡ missing
+    line_missing f = is_missing (line_of s) refl (sym e ∙ f)
 
 -- ---- finding it: the characters passed add to the length of what is left
 
@@ -89,13 +89,13 @@ module _ (s : List ℕ) (i : ℕ) where
       let e : passed i (length_of (line_of (drop i s))) ≡ passed i (length_of (longer (get_or s i 0) (line_of (drop (suc i) s)))) = rw (drop-cons s i 0, ne_eqb _ _ d) in
       ap (λ (k : ℕ). passed (i + 1) (length_of (line_of (drop k s)))) (add-one i) ∙ passed_more i (get_or s i 0) (line_of (drop (suc i) s)) ∙ sym e
 
-  pub line-found : i < length s → get_or s i 0 ≡ 10 → Is i ≡ passed i (length_of (line_of (drop i s)))
+  pub line_found : i < length s → get_or s i 0 ≡ 10 → Is i ≡ passed i (length_of (line_of (drop i s)))
   unfolding line_of
-  line-found h d = rw (drop-cons s i 0, eq-eqb _ _ d) (ap Is (sym (add-zero i)))
+  line_found h d = rw (drop-cons s i 0, eq-eqb _ _ d) (ap Is (sym (add-zero i)))
 
-  pub line-none : length s ≤ i → Missing ≡ passed i (length_of (line_of (drop i s)))
+  pub line_none : length s ≤ i → Missing ≡ passed i (length_of (line_of (drop i s)))
   unfolding line_of
-  line-none h = rw (drop_of_length-le s h)
+  line_none h = rw (drop_of_length-le s h)
 
 pub line_all : (s : List ℕ) → passed 0 (length_of (line_of s)) ≡ length_of (line_of s)
 line_all s = each (length_of (line_of s))
@@ -128,14 +128,14 @@ begins_short name l h = by (begins name l) refl
 
 module _ (name l : List ℕ) (i : ℕ) where
   module _ (h : i < length name) (k : i < length l) where
-    pub begins-step : get_or name i 0 ≡ get_or l i 0 → begins (drop (i + 1) name) (drop (i + 1) l) ≡ begins (drop i name) (drop i l)
+    pub begins_step : get_or name i 0 ≡ get_or l i 0 → begins (drop (i + 1) name) (drop (i + 1) l) ≡ begins (drop i name) (drop i l)
     unfolding begins
-    begins-step e = rw (add-one i, drop-cons name i 0, drop-cons l i 0, eq-eqb _ _ e)
+    begins_step e = rw (add-one i, drop-cons name i 0, drop-cons l i 0, eq-eqb _ _ e)
 
-    pub begins-stop : (get_or name i 0 ≡ get_or l i 0 → ⊥) → false ≡ begins (drop i name) (drop i l)
+    pub begins_stop : (get_or name i 0 ≡ get_or l i 0 → ⊥) → false ≡ begins (drop i name) (drop i l)
     unfolding begins
-    begins-stop d = rw (drop-cons name i 0, drop-cons l i 0, ne_eqb _ _ d)
+    begins_stop d = rw (drop-cons name i 0, drop-cons l i 0, ne_eqb _ _ d)
 
-  pub begins-done : length name ≤ i → true ≡ begins (drop i name) (drop i l)
+  pub begins_done : length name ≤ i → true ≡ begins (drop i name) (drop i l)
   unfolding begins
-  begins-done h = rw (drop_of_length-le name h)
+  begins_done h = rw (drop_of_length-le name h)

@@ -15,7 +15,7 @@ use Rattle.text.specs.Written.{over, hex_digit, hex_text}
 use Rattle.text.specs.Pairs.{Pairs, pairs, none, behind, pairs_of, within, are_pairs, bytes_of, Filled, filled, filling, pairs_into}
 use Rattle.text.specs.declared.lines.PairsAnswer.{PairsAnswer}
 use Rattle.text.specs.declared.lines.PairsAnswer.TheVariants.{Is, Bad}
-use Rattle.text.proofs.Digits.{and_false, decimal_digit, lower-digit}
+use Rattle.text.proofs.Digits.{and_false, decimal_digit, lower_digit}
 use Rattle.text.proofs.Hexes.{low_digit, high_digit}
 use Rattle.text.proofs.Over.{over_cons}
 
@@ -91,14 +91,14 @@ within_length n (pairs a) b e = by (leb (length a) n) refl e
 -- ---- one pair more of a text
 
 module _ (s : List ℕ) (i : ℕ) where
-  pub pairs-done : length s ≤ i → pairs_of (drop i s) ≡ pairs []
+  pub pairs_done : length s ≤ i → pairs_of (drop i s) ≡ pairs []
   unfolding pairs_of
-  pairs-done h = rw (drop_of_length-le s h)
+  pairs_done h = rw (drop_of_length-le s h)
 
   -- a digit without another
-  pub pairs-odd : i < length s → length s - i < 2 → false ≡ are_pairs (pairs_of (drop i s))
+  pub pairs_odd : i < length s → length s - i < 2 → false ≡ are_pairs (pairs_of (drop i s))
   unfolding pairs_of
-  pairs-odd h k =
+  pairs_odd h k =
       let l : length s ≤ suc i = omega arith in
       rw (drop-cons s i 0, drop_of_length-le s l)
 
@@ -110,14 +110,14 @@ module _ (s : List ℕ) (i : ℕ) where
         let m : i < length s = omega arith in
         rw (e, add-one i) (drop-cons s i 0 m ∙ ap (λ (t : List ℕ). get_or s i 0 ∷ t) (drop-cons s (suc i) 0 k))
 
-    pub pairs-no-high : 16 ≤ digit_of (get_or s i 0) → false ≡ are_pairs (pairs_of (drop i s))
-    pairs-no-high d = sym (ap (λ (t : List ℕ). are_pairs (pairs_of t)) two ∙ ap are_pairs (high_none (get_or s i 0) (get_or s (i + 1) 0) (drop (i + 2) s) d))
+    pub pairs_no_high : 16 ≤ digit_of (get_or s i 0) → false ≡ are_pairs (pairs_of (drop i s))
+    pairs_no_high d = sym (ap (λ (t : List ℕ). are_pairs (pairs_of t)) two ∙ ap are_pairs (high_none (get_or s i 0) (get_or s (i + 1) 0) (drop (i + 2) s) d))
 
-    pub pairs-no-low : 16 ≤ digit_of (get_or s (i + 1) 0) → false ≡ are_pairs (pairs_of (drop i s))
-    pairs-no-low d = sym (ap (λ (t : List ℕ). are_pairs (pairs_of t)) two ∙ ap are_pairs (low_none (get_or s i 0) (get_or s (i + 1) 0) (drop (i + 2) s) d))
+    pub pairs_no_low : 16 ≤ digit_of (get_or s (i + 1) 0) → false ≡ are_pairs (pairs_of (drop i s))
+    pairs_no_low d = sym (ap (λ (t : List ℕ). are_pairs (pairs_of t)) two ∙ ap are_pairs (low_none (get_or s i 0) (get_or s (i + 1) 0) (drop (i + 2) s) d))
 
-    pub pairs-step : digit_of (get_or s i 0) < 16 → digit_of (get_or s (i + 1) 0) < 16 → are_pairs (pairs_of (drop (i + 2) s)) ≡ are_pairs (pairs_of (drop i s))
-    pairs-step u v =
+    pub pairs_step : digit_of (get_or s i 0) < 16 → digit_of (get_or s (i + 1) 0) < 16 → are_pairs (pairs_of (drop (i + 2) s)) ≡ are_pairs (pairs_of (drop i s))
+    pairs_step u v =
         sym
         (ap (λ (t : List ℕ). are_pairs (pairs_of t)) two
         ∙ ap are_pairs (two_digits (get_or s i 0) (get_or s (i + 1) 0) (drop (i + 2) s) u v)
@@ -128,15 +128,15 @@ module _ (s : List ℕ) (i : ℕ) where
       here : are_pairs (pairs_of (get_or s i 0 ∷ get_or s (i + 1) 0 ∷ drop (i + 2) s)) ≡ true
       here = ap (λ (t : List ℕ). are_pairs (pairs_of t)) (sym two) ∙ e
 
-      pub pair-digits : (digit_of (get_or s i 0) < 16) × (digit_of (get_or s (i + 1) 0) < 16)
-      pair-digits = both_digits (get_or s i 0) (get_or s (i + 1) 0) (drop (i + 2) s) here
+      pub pair_digits : (digit_of (get_or s i 0) < 16) × (digit_of (get_or s (i + 1) 0) < 16)
+      pair_digits = both_digits (get_or s i 0) (get_or s (i + 1) 0) (drop (i + 2) s) here
 
-      pub pair-rest : are_pairs (pairs_of (drop (i + 2) s)) ≡ true
-      pair-rest = rest_pairs (get_or s i 0) (get_or s (i + 1) 0) (drop (i + 2) s) here
+      pub pair_rest : are_pairs (pairs_of (drop (i + 2) s)) ≡ true
+      pair_rest = rest_pairs (get_or s i 0) (get_or s (i + 1) 0) (drop (i + 2) s) here
 
-      pub pair-over : (o : List ℕ) (at u v : ℕ) → u ≡ digit_of (get_or s i 0) → v ≡ digit_of (get_or s (i + 1) 0)
+      pub pair_over : (o : List ℕ) (at u v : ℕ) → u ≡ digit_of (get_or s i 0) → v ≡ digit_of (get_or s (i + 1) 0)
           → over (set o at (u * 16 + v)) (at + 1) (bytes_of (pairs_of (drop (i + 2) s))) ≡ over o at (bytes_of (pairs_of (drop i s)))
-      pair-over o at u v p q =
+      pair_over o at u v p q =
           rw (p, q)
           (sym
           (ap (λ (t : List ℕ). over o at (bytes_of (pairs_of t))) two
@@ -193,17 +193,17 @@ module _ (s out o : List ℕ) (r : PairsAnswer) (e : filled r o ≡ pairs_into (
   pub pairs_is : (n : ℕ) → r ≡ Is n → within (length out) (pairs_of s) ≡ pairs (take n o)
   pairs_is n f = (is_pairs (within (length out) (pairs_of s)) refl made n f).0
 
-  pub pairs-room : (n : ℕ) → r ≡ Is n → n ≤ length o
-  pairs-room n f = (is_pairs (within (length out) (pairs_of s)) refl made n f).1
+  pub pairs_room : (n : ℕ) → r ≡ Is n → n ≤ length o
+  pairs_room n f = (is_pairs (within (length out) (pairs_of s)) refl made n f).1
 
-  pub pairs-bad : r ≡ Bad → within (length out) (pairs_of s) ≡ none
-  pairs-bad f = (is_bad (within (length out) (pairs_of s)) made f).0
+  pub pairs_bad : r ≡ Bad → within (length out) (pairs_of s) ≡ none
+  pairs_bad f = (is_bad (within (length out) (pairs_of s)) made f).0
 
-  pub pairs-kept : r ≡ Bad → o ≡ out
-  pairs-kept f = (is_bad (within (length out) (pairs_of s)) made f).1
+  pub pairs_kept : r ≡ Bad → o ≡ out
+  pairs_kept f = (is_bad (within (length out) (pairs_of s)) made f).1
 
-  pub pairs-output : length o ≡ length out
-  pairs-output = whole (within (length out) (pairs_of s)) refl made
+  pub pairs_output : length o ≡ length out
+  pairs_output = whole (within (length out) (pairs_of s)) refl made
 
 -- ---- written bytes read as themselves
 
@@ -218,7 +218,7 @@ written_hex d h = by (ltb d 10) refl
     by false f =
         let l = ltb-false d 10 f in
         let e : 87 + d - 87 ≡ d = omega arith in
-        rw (← high_digit d l) (sym (lower-digit (87 + d) (omega arith) (omega arith) (omega arith) (omega arith) (omega arith) (omega arith)) ∙ e)
+        rw (← high_digit d l) (sym (lower_digit (87 + d) (omega arith) (omega arith) (omega arith) (omega arith) (omega arith) (omega arith)) ∙ e)
 
 pub hex_read : (b : List ℕ) → ((i : ℕ) → get_or b i 0 < 256) → pairs_of (hex_text b) ≡ pairs b
 unfolding hex_text

@@ -37,17 +37,17 @@ module _ (o : List ℕ) (at : ℕ) (b : List ℕ) (i : ℕ) where
     unfolding hex_text
     hex_first = rw (add-one i, drop-cons b i 0) (over_cons o at (hex_digit (get_or b i 0 / 16)) (hex_digit (get_or b i 0 % 16) ∷ hex_text (drop (suc i) b)))
 
-    pub hex-step : (u l : ℕ) → u ≡ hex_digit (get_or b i 0 / 16) → l ≡ hex_digit (get_or b i 0 % 16)
+    pub hex_step : (u l : ℕ) → u ≡ hex_digit (get_or b i 0 / 16) → l ≡ hex_digit (get_or b i 0 % 16)
         → over (set (set o at u) (at + 1) l) (at + 1 + 1) (hex_text (drop (i + 1) b)) ≡ over o at (hex_text (drop i b))
-    hex-step u l p q = rw (p, q) (sym (hex_first ∙ over_cons (set o at (hex_digit (get_or b i 0 / 16))) (at + 1) (hex_digit (get_or b i 0 % 16)) (hex_text (drop (i + 1) b))))
+    hex_step u l p q = rw (p, q) (sym (hex_first ∙ over_cons (set o at (hex_digit (get_or b i 0 / 16))) (at + 1) (hex_digit (get_or b i 0 % 16)) (hex_text (drop (i + 1) b))))
 
     -- the output ends between the two digits
-    pub hex-half : (u : ℕ) → u ≡ hex_digit (get_or b i 0 / 16) → length o ≤ at + 1 → set o at u ≡ over o at (hex_text (drop i b))
-    hex-half u p r =
+    pub hex_half : (u : ℕ) → u ≡ hex_digit (get_or b i 0 / 16) → length o ≤ at + 1 → set o at u ≡ over o at (hex_text (drop i b))
+    hex_half u p r =
         let s = set o at (hex_digit (get_or b i 0 / 16)) in
         let m : length s ≤ at + 1 = rw (length-set o at (hex_digit (get_or b i 0 / 16))) r in
         rw p (sym (hex_first ∙ over_past s (at + 1) (hex_digit (get_or b i 0 % 16) ∷ hex_text (drop (i + 1) b)) m))
 
-  pub hex-done : length b ≤ i → over o at (hex_text (drop i b)) ≡ o
+  pub hex_done : length b ≤ i → over o at (hex_text (drop i b)) ≡ o
   unfolding hex_text
-  hex-done h = ap (λ (t : List ℕ). over o at (hex_text t)) (drop_of_length-le b h) ∙ over_none o at
+  hex_done h = ap (λ (t : List ℕ). over o at (hex_text t)) (drop_of_length-le b h) ∙ over_none o at

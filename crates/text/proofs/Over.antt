@@ -47,22 +47,22 @@ over_sets o at [] = refl
 over_sets o at (x ∷ b) = over_sets (set o at x) (at + 1) b ∙ ap (λ (k : ℕ). sets (set o at x) k b) (add-one at)
 
 module _ (o : List ℕ) (at : ℕ) (b : List ℕ) (h : at + length b ≤ length o) where
-  pub over-inside : over o at b ≡ take at o ++ b ++ drop (at + length b) o
-  over-inside = over_sets o at b ∙ sets-eq b o at h
+  pub over_inside : over o at b ≡ take at o ++ b ++ drop (at + length b) o
+  over_inside = over_sets o at b ∙ sets-eq b o at h
 
   -- what is written so far, and the bytes behind it
-  pub over-taken : take (at + length b) (over o at b) ≡ take at o ++ b
-  over-taken =
+  pub over_taken : take (at + length b) (over o at b) ≡ take at o ++ b
+  over_taken =
       let l : length (take at o) ≡ at = length-take-le at o (omega arith) in
-      ap (take (at + length b)) over-inside ∙ take_at (take at o ++ b) (drop (at + length b) o) (at + length b) (length-append (take at o) b ∙ ap (λ (k : ℕ). k + length b) l)
+      ap (take (at + length b)) over_inside ∙ take_at (take at o ++ b) (drop (at + length b) o) (at + length b) (length-append (take at o) b ∙ ap (λ (k : ℕ). k + length b) l)
 
 pub over_front : (o b : List ℕ) → length b ≤ length o → over o 0 b ≡ b ++ drop (length b) o
-over_front o b h = over-inside o 0 b (omega arith) ∙ ap (λ (k : ℕ). b ++ drop k o) (zero-add (length b))
+over_front o b h = over_inside o 0 b (omega arith) ∙ ap (λ (k : ℕ). b ++ drop k o) (zero-add (length b))
 
 -- ---- one byte more of a list
 module _ (o : List ℕ) (at : ℕ) (b : List ℕ) (i : ℕ) where
-  pub over-step : i < length b → over o at (drop i b) ≡ over (set o at (get_or b i 0)) (at + 1) (drop (i + 1) b)
-  over-step h = rw (add-one i, drop-cons b i 0) (over_cons o at (get_or b i 0) (drop (suc i) b))
+  pub over_step : i < length b → over o at (drop i b) ≡ over (set o at (get_or b i 0)) (at + 1) (drop (i + 1) b)
+  over_step h = rw (add-one i, drop-cons b i 0) (over_cons o at (get_or b i 0) (drop (suc i) b))
 
   pub over_done : length b ≤ i → over o at (drop i b) ≡ o
   over_done h = ap (over o at) (drop_of_length-le b h) ∙ over_none o at

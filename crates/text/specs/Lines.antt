@@ -1,7 +1,7 @@
 -- The lines of a text. Document 01, "Script program": "four lines each, every line .. ended by a line feed, one without it counting as missing",
 -- "if a line is missing or misnamed".
 -- Assumes nothing.
-use Rattle.std.specs.Prelude.{ℕ, Bool, true, false, cond, ◌&&◌, List, [], ◌∷◌, eqb, length, drop}
+use Rattle.std.specs.Prelude.{ℕ, Bool, true, false, cond, ◌&&◌, List, [], ◌∷◌, eqb, length}
 use Rattle.text.specs.declared.lines.LineAnswer.{LineAnswer}
 use Rattle.text.specs.declared.lines.LineAnswer.TheVariants.{Is, Missing}
 
@@ -29,19 +29,3 @@ unfoldable pub begins : List ℕ → List ℕ → Bool
 begins [] l = true
 begins (c ∷ name) [] = false
 begins (c ∷ name) (d ∷ l) = eqb c d && begins name l
-
--- ---- a line with its name
-
--- what stands behind the name, and what follows the line; "a line is missing or misnamed"
-pub data Named : Type 0 where
-  named : List ℕ → List ℕ → Named
-  misnamed : Named
-
-abbrev pub named_by : List ℕ → Line → Named
-named_by name (line l rest) = cond (begins name l) (named (drop (length name) l) rest) misnamed
-named_by name missing = misnamed
-
--- the length of the whole line, where it has the name
-abbrev pub length_named : List ℕ → Line → LineAnswer
-length_named name (line l rest) = cond (begins name l) (Is (length l)) Missing
-length_named name missing = Missing

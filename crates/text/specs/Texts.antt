@@ -25,6 +25,6 @@ unfoldable pub value_from : ℕ → ℕ → List ℕ → ℕ
 value_from b acc [] = acc
 value_from b acc (c ∷ s) = value_from b (acc * b + digit_of c) s
 
--- at least one digit, no other character, and a number of w bits
-unfoldable pub number_of : ℕ → ℕ → List ℕ → Number
-number_of w b s = cond (ltb 0 (length s) && (all_digits b s && ltb (value_from b 0 s) (2 ^ w))) (Is (value_from b 0 s)) Bad
+-- at least one digit, no other character, and a number of 64 bits
+unfoldable pub number_of : ℕ → List ℕ → Number
+number_of b s = cond (ltb 0 (length s) && (all_digits b s && ltb (value_from b 0 s) (2 ^ 64))) (Is (value_from b 0 s)) Bad

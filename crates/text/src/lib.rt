@@ -1,11 +1,9 @@
 // Texts: the numbers that digits say (decimal, hex of either case, leading zeros free), lines and hex pairs, and what is written.
 // No public function has a `requires`.
 pub mod lines; // lines, names, hex pairs: what is read
-pub mod names; // names and tables of names
 pub mod written; // bytes, hex pairs, decimal numbers: what is written
 
 ghost use Rattle.std.specs.Prelude.{◌≡◌, ◌≤◌};
-ghost use Rattle.bits.specs.Integers.{integer_bits};
 ghost use Rattle.text.specs.Texts.{digit_of, number_of};
 
 #[derive(Drop)]
@@ -42,7 +40,7 @@ pub fn digit(c: u8) -> u64
 // The number that the digits of the base say. It stops at the first character that is none, and where 64 bits do not hold the number.
 fn in_base(s: &[u8], base: u64) -> Number
     requires { (2 ≤ base) × (base ≤ 16) }
-    ensures { result ≡ number_of integer_bits base s.now }
+    ensures { result ≡ number_of base s.now }
 {
     if s.len() == 0 {
         return Number::Bad;
@@ -64,13 +62,13 @@ fn in_base(s: &[u8], base: u64) -> Number
 }
 
 pub fn decimal(s: &[u8]) -> Number
-    ensures { result ≡ number_of integer_bits 10 s.now }
+    ensures { result ≡ number_of 10 s.now }
 {
     in_base(s, 10)
 }
 
 pub fn hexadecimal(s: &[u8]) -> Number
-    ensures { result ≡ number_of integer_bits 16 s.now }
+    ensures { result ≡ number_of 16 s.now }
 {
     in_base(s, 16)
 }

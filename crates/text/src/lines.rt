@@ -1,6 +1,6 @@
 // What a line-oriented program reads: lines, the names they begin with, hex pairs.
 ghost use Rattle.std.specs.Prelude.{◌≡◌, true, ◌++◌, ◌≤◌, ◌*◌, length, drop};
-ghost use Rattle.text.specs.Lines.{line_of, length_of, begins, length_named};
+ghost use Rattle.text.specs.Lines.{line_of, length_of, begins};
 ghost use Rattle.text.specs.Pairs.{pairs_of, are_pairs, bytes_of, filled, pairs_into};
 
 use crate::digit;
@@ -47,20 +47,6 @@ pub fn begins_with(line: &[u8], name: &[u8]) -> bool
         i += 1;
     }
     true
-}
-
-// The length of the first line, where it begins with this name.
-pub fn named_line(s: &[u8], name: &[u8]) -> LineAnswer
-    ensures { result ≡ length_named name.now (line_of s.now) }
-{
-    let found = line_length(s);
-    let LineAnswer::Is(n) = found else {
-        return LineAnswer::Missing;
-    };
-    if !begins_with(&s[..n], name) {
-        return LineAnswer::Missing;
-    }
-    LineAnswer::Is(n)
 }
 
 fn are_pairs(s: &[u8]) -> bool

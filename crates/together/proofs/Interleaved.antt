@@ -11,8 +11,8 @@ use mathlib.Core.Logic.{◌⊎◌, inl, inr}
 use mathlib.Core.Bool.{Bool, true, false, cond, true≢false, Bool-discrete}
 use mathlib.Core.List.{List}
 use Rattle.together.specs.System.{System, Laws, Agree, put_all, Slot, Ended, Active, ops_of, Apart, overlay, AtEveryMoment, OnceAllEnded}
-use Rattle.together.proofs.Alone.{stores_of, stored, putAll-keeps, putAll-good, stores-frame, stores-quiet, first-local, stores-local, whole-keeps, whole-good}
-use Rattle.together.proofs.Invariant.{Slots, Fine, Mine, after, Inv, by-made, inv-run}
+use Rattle.together.proofs.Alone.{stores_of, stored, put_all_keeps, put_all_good, stores_frame, stores_quiet, first_local, stores_local, whole_keeps, whole_good}
+use Rattle.together.proofs.Invariant.{Slots, Fine, Mine, after, Inv, by_made, inv_run}
 
 module _ (S : System) (L : Laws S) where
   open S use {State, Cell, at, shape, Good, Touch, Writes}
@@ -27,7 +27,7 @@ module _ (S : System) (L : Laws S) where
     over_one_good x τ g = go x.busy
       where
         go : (b : Bool) → Good (cond b (put_all S x.done τ) τ)
-        go true = putAll-good S L x.done τ g
+        go true = put_all_good S L x.done τ g
         go false = g
 
     -- they change only its own cells
@@ -36,19 +36,19 @@ module _ (S : System) (L : Laws S) where
     over_one x f τ g c n = go x.busy refl
       where
         on : Active S x → Dec (Writes x.op) → at (put_all S (stores_of S x.op x.made ended) τ) c ≡ at τ c
-        on a (yes w) = stores-frame S L x.op ended x.made τ g c (λ p. n (a, (w, p)))
-        on a (no w) = ap (λ xs. at (put_all S xs τ) c) (stores-quiet S L x.op ended x.made w)
+        on a (yes w) = stores_frame S L x.op ended x.made τ g c (λ p. n (a, (w, p)))
+        on a (no w) = ap (λ xs. at (put_all S xs τ) c) (stores_quiet S L x.op ended x.made w)
 
         go : (b : Bool) → x.busy ≡ b → at (cond x.busy (put_all S x.done τ) τ) c ≡ at τ c
         go false e = rw e refl
         go true e =
             rw (e, f.done e)
-            (by-made S _ x e (λ z. ap (λ k. at (put_all S (stores_of S x.op k ended) τ) c) z) (λ a. on a (L.writes? x.op)))
+            (by_made S _ x e (λ z. ap (λ k. at (put_all S (stores_of S x.op k ended) τ) c) z) (λ a. on a (L.writes? x.op)))
 
     -- ---- those of the first n tasks
 
     over_good : (n : ℕ) → Good (overlay S t n ended)
-    over_good zero = whole-good S L (ops_of S l) ρ gρ
+    over_good zero = whole_good S L (ops_of S l) ρ gρ
     over_good (suc n) = over_one_good (t n) (overlay S t n ended) (over_good n)
 
     over_keeps : (n : ℕ) → shape (overlay S t n ended) ≡ shape ended
@@ -57,7 +57,7 @@ module _ (S : System) (L : Laws S) where
       where
         go : (b : Bool) → shape (cond b (put_all S (t n).done (overlay S t n ended)) (overlay S t n ended)) ≡ shape (overlay S t n ended)
         go false = refl
-        go true = putAll-keeps S L (t n).done (overlay S t n ended)
+        go true = put_all_keeps S L (t n).done (overlay S t n ended)
 
     over_clear : (n : ℕ) (x : Cell) → ((j : ℕ) → j < n → Mine S (t j) x → ⊥) → at (overlay S t n ended) x ≡ at ended x
     over_clear zero x h = refl
@@ -70,8 +70,8 @@ module _ (S : System) (L : Laws S) where
     -- a write's own cells are as the state has them
     over_mine : (n : ℕ) (x : Cell) → Mine S (t n) x → at (overlay S t (suc n) ended) x ≡ at s x
     over_mine n x (a, (w, p)) =
-        rw (a.0, (v.fine n).done a.0, stores-local S L (t n).op (t n).made ended (overlay S t n ended) agree, stored S (t n).op (t n).made (overlay S t n ended))
-        (sym ((first-local S L (t n).op (t n).made ended (overlay S t n ended) agree).1.on x p) ∙ sym (((v.fine n).seen a).on x p))
+        rw (a.0, (v.fine n).done a.0, stores_local S L (t n).op (t n).made ended (overlay S t n ended) agree, stored S (t n).op (t n).made (overlay S t n ended))
+        (sym ((first_local S L (t n).op (t n).made ended (overlay S t n ended) agree).1.on x p) ∙ sym (((v.fine n).seen a).on x p))
       where
         agree : Agree S (t n).op ended (overlay S t n ended)
         agree = record { same = sym (over_keeps n); on = λ y q. sym (over_clear n y (λ j b c. disjoint j n (λ e. omega arith) y c a q)) }
@@ -97,7 +97,7 @@ module _ (S : System) (L : Laws S) where
 
     state_is : (n : ℕ) → ((j : ℕ) → n ≤ j → (t j).busy ≡ false) → s ≡ overlay S t n ended
     state_is n idle =
-        L.ext s _ v.good (over_good n) (v.shaped ∙ sym (whole-keeps S L (ops_of S l) ρ) ∙ sym (over_keeps n)) (λ x. go x (over n x))
+        L.ext s _ v.good (over_good n) (v.shaped ∙ sym (whole_keeps S L (ops_of S l) ρ) ∙ sym (over_keeps n)) (λ x. go x (over n x))
       where
         go : (x : Cell) → Clear n x ⊎ (at (overlay S t n ended) x ≡ at s x) → at s x ≡ at (overlay S t n ended) x
         go x (inr e) = sym e
@@ -109,10 +109,10 @@ module _ (S : System) (L : Laws S) where
 
   -- ---- the theorems
 
-  pub at-every-moment : AtEveryMoment S
-  at-every-moment n c d g f r idle =
-      let (v, a) = inv-run S L c d g f r in
+  pub at_every_moment : AtEveryMoment S
+  at_every_moment n c d g f r idle =
+      let (v, a) = inv_run S L c d g f r in
       (state_is c.state g d.slots d.state d.log v a n idle, v.answers)
 
-  pub once-all-ended : OnceAllEnded S
-  once-all-ended c d g f r idle = at-every-moment 0 c d g f r (λ j p. idle j)
+  pub once_all_ended : OnceAllEnded S
+  once_all_ended c d g f r idle = at_every_moment 0 c d g f r (λ j p. idle j)

@@ -10,8 +10,8 @@ use mathlib.Core.Path.{◌≡◌, refl, sym, ap, ◌∙◌, subst, fun_ext}
 use mathlib.Core.Logic.{◌⊎◌, inl, inr}
 use mathlib.Core.Bool.{false, true≢false}
 use mathlib.Core.List.{List, [], ◌∷◌, ◌++◌}
-use Rattle.together.specs.System.{System, Laws, Agree, put_all, first, wholeState, whole_answer, stateAfter, answers_of, Slot, Ended, Conf, Busy, Active, ops_of, gotOf, Apart, begun, storesNow, heldNext, advanced, finishes, Others, NextAccess, Move, stay, begin, more, last, Run, here, then, Fresh}
-use Rattle.together.proofs.Alone.{stores_of, putAll-keeps, putAll-good, first-keeps, first_frame, first-quiet, first-local, stores-local, whole-keeps, whole-good}
+use Rattle.together.specs.System.{System, Laws, Agree, put_all, first, whole_state, whole_answer, state_after, answers_of, Slot, Ended, Conf, Busy, Active, ops_of, got_of, Apart, begun, stores_now, held_next, advanced, finishes, Others, NextAccess, Move, stay, begin, more, last, Run, here, then, Fresh}
+use Rattle.together.proofs.Alone.{stores_of, put_all_keeps, put_all_good, first_keeps, first_frame, first_quiet, first_local, stores_local, whole_keeps, whole_good}
 
 module _ (S : System) where
   open S use {State, Cell, at, shape, Good, Touch, Writes, Lock}
@@ -38,10 +38,10 @@ module _ (S : System) where
 
   -- the ended operations run whole
   abbrev pub after : State → List (Ended S) → State
-  after ρ l = stateAfter S (ops_of S l) ρ
+  after ρ l = state_after S (ops_of S l) ρ
 
   pub record Inv (ρ : State) (t : Slots) (s : State) (l : List (Ended S)) : Type 0 where
-    pub answers : gotOf S l ≡ answers_of S (ops_of S l) ρ
+    pub answers : got_of S l ≡ answers_of S (ops_of S l) ρ
     pub shaped : shape s ≡ shape ρ
     pub good : Good s
     pub fine : (j : ℕ) → Fine (after ρ l) s (t j)
@@ -53,16 +53,16 @@ module _ (S : System) where
 
   -- ---- one more ended
 
-  after_snoc : (l : List (Ended S)) (e : Ended S) (ρ : State) → after ρ (l ++ (e ∷ [])) ≡ wholeState S e.op (after ρ l)
+  after_snoc : (l : List (Ended S)) (e : Ended S) (ρ : State) → after ρ (l ++ (e ∷ [])) ≡ whole_state S e.op (after ρ l)
   after_snoc [] e ρ = refl
-  after_snoc (x ∷ l) e ρ = after_snoc l e (wholeState S x.op ρ)
+  after_snoc (x ∷ l) e ρ = after_snoc l e (whole_state S x.op ρ)
 
   answers_snoc : (l : List (Ended S)) (e : Ended S) (ρ : State)
       → answers_of S (ops_of S (l ++ (e ∷ []))) ρ ≡ answers_of S (ops_of S l) ρ ++ (whole_answer S e.op (after ρ l) ∷ [])
   answers_snoc [] e ρ = refl
-  answers_snoc (x ∷ l) e ρ = ap (λ q. whole_answer S x.op ρ ∷ q) (answers_snoc l e (wholeState S x.op ρ))
+  answers_snoc (x ∷ l) e ρ = ap (λ q. whole_answer S x.op ρ ∷ q) (answers_snoc l e (whole_state S x.op ρ))
 
-  got_snoc : (l : List (Ended S)) (e : Ended S) → gotOf S (l ++ (e ∷ [])) ≡ gotOf S l ++ (e.got ∷ [])
+  got_snoc : (l : List (Ended S)) (e : Ended S) → got_of S (l ++ (e ∷ [])) ≡ got_of S l ++ (e.got ∷ [])
   got_snoc [] e = refl
   got_snoc (x ∷ l) e = ap (λ q. x.got ∷ q) (got_snoc l e)
 
@@ -89,8 +89,8 @@ module _ (S : System) where
       go (no m) (no m') = h a b n (subst Locks (o a m) p) (subst Locks (o b m') q)
 
   -- under way, without an access made or with one
-  pub by-made : (A : Type 0) (x : Slot S) → Busy S x → (x.made ≡ 0 → A) → (Active S x → A) → A
-  by-made A x b f g = go x.made refl
+  pub by_made : (A : Type 0) (x : Slot S) → Busy S x → (x.made ≡ 0 → A) → (Active S x → A) → A
+  by_made A x b f g = go x.made refl
     where
       go : (k : ℕ) → x.made ≡ k → A
       go zero e = f e
@@ -103,14 +103,14 @@ module _ (S : System) (L : Laws S) where
   carry : (σ σ' s s' : State) (x : Slot S) → Fine S σ s x → (Active S x → Agree S x.op s' s) → (Active S x → Agree S x.op σ σ') → Fine S σ' s' x
   carry σ σ' s s' x f p q =
       record {
-        held = λ b. f.held b ∙ by-made S _ x b
+        held = λ b. f.held b ∙ by_made S _ x b
             (λ e. ap (λ k. (first S x.op k σ).0) e ∙ sym (ap (λ k. (first S x.op k σ').0) e))
-            (λ a. (first-local S L x.op x.made σ σ' (q a)).0);
-        done = λ b. f.done b ∙ by-made S _ x b
+            (λ a. (first_local S L x.op x.made σ σ' (q a)).0);
+        done = λ b. f.done b ∙ by_made S _ x b
             (λ e. ap (λ k. stores_of S x.op k σ) e ∙ sym (ap (λ k. stores_of S x.op k σ') e))
-            (λ a. stores-local S L x.op x.made σ σ' (q a));
+            (λ a. stores_local S L x.op x.made σ σ' (q a));
         seen = λ a.
-            let z = (first-local S L x.op x.made σ σ' (q a)).1 in
+            let z = (first_local S L x.op x.made σ σ' (q a)).1 in
             record { same = (p a).same ∙ (f.seen a).same ∙ z.same; on = λ c i. (p a).on c i ∙ (f.seen a).on c i ∙ z.on c i };
       }
 
@@ -124,11 +124,11 @@ module _ (S : System) (L : Laws S) where
     me = c.slots i
 
     σ_good : Good σ
-    σ_good = whole-good S L (ops_of S c.log) ρ gρ
+    σ_good = whole_good S L (ops_of S c.log) ρ gρ
 
     -- where it has the lock, or takes it, no other has it
     lone : (j : ℕ) → (j ≡ i → ⊥) → Lock me.op → Locks S (c.slots j) → ⊥
-    lone j n l q = by-made S ⊥ me m.busy (λ e. m.free e l j n q.0 q.1) (λ a. v.one i j (λ f. n (sym f)) (a, l) q)
+    lone j n l q = by_made S ⊥ me m.busy (λ e. m.free e l j n q.0 q.1) (λ a. v.one i j (λ f. n (sym f)) (a, l) q)
 
     -- another task with an access made shares no cell with it, where one of them writes
     clash : (j : ℕ) → (j ≡ i → ⊥) → Active S (c.slots j) → (x : Cell) → Touch me.op x → Touch (c.slots j).op x
@@ -138,9 +138,9 @@ module _ (S : System) (L : Laws S) where
     -- it sees its footprint as after the ended operations and its own accesses
     sees : Agree S me.op c.state (first S me.op me.made σ).1
     sees =
-        by-made S _ me m.busy
+        by_made S _ me m.busy
         (λ e. record {
-          same = v.shaped ∙ sym (whole-keeps S L (ops_of S c.log) ρ) ∙ sym (first-keeps S L me.op me.made σ);
+          same = v.shaped ∙ sym (whole_keeps S L (ops_of S c.log) ρ) ∙ sym (first_keeps S L me.op me.made σ);
           on = begins e;
         })
         (v.fine i).seen
@@ -153,23 +153,23 @@ module _ (S : System) (L : Laws S) where
             off j y (no n) = clash j n y.0 x t y.1.1 (inr y.1.0)
 
     -- what it holds, has stored and leaves after the access
-    held_next : heldNext S me c.state ≡ (first S me.op (suc me.made) σ).0
-    held_next =
-        L.local-held _ _ _ _ _ sees ∙ ap (λ h. load me.op me.made h (first S me.op me.made σ).1) ((v.fine i).held m.busy)
+    held_next_lem : held_next S me c.state ≡ (first S me.op (suc me.made) σ).0
+    held_next_lem =
+        L.local_held _ _ _ _ _ sees ∙ ap (λ h. load me.op me.made h (first S me.op me.made σ).1) ((v.fine i).held m.busy)
 
-    done_next : me.done ++ storesNow S me ≡ stores_of S me.op (suc me.made) σ
+    done_next : me.done ++ stores_now S me ≡ stores_of S me.op (suc me.made) σ
     done_next = cc ((v.fine i).done m.busy, (v.fine i).held m.busy)
 
     shaped_next : shape d.state ≡ shape c.state
-    shaped_next = ap shape m.state ∙ putAll-keeps S L (storesNow S me) c.state
+    shaped_next = ap shape m.state ∙ put_all_keeps S L (stores_now S me) c.state
 
     good_next : Good d.state
-    good_next = subst Good (sym m.state) (putAll-good S L (storesNow S me) c.state v.good)
+    good_next = subst Good (sym m.state) (put_all_good S L (stores_now S me) c.state v.good)
 
     state_next : Agree S me.op d.state (first S me.op (suc me.made) σ).1
     state_next =
         record {
-          same = shaped_next ∙ sees.same ∙ sym (putAll-keeps S L (stores me.op me.made (first S me.op me.made σ).0) _);
+          same = shaped_next ∙ sees.same ∙ sym (put_all_keeps S L (stores me.op me.made (first S me.op me.made σ).0) _);
           on = λ x t.
               ap (λ s. at s x) m.state
               ∙ L.local_at _ _ _ _ _ sees x t
@@ -180,7 +180,7 @@ module _ (S : System) (L : Laws S) where
     stays : (x : Cell) → (Writes me.op → Touch me.op x → ⊥) → at d.state x ≡ at c.state x
     stays x n = ap (λ s. at s x) m.state ∙ go (L.writes? me.op)
       where
-        go : Dec (Writes me.op) → at (put_all S (storesNow S me) c.state) x ≡ at c.state x
+        go : Dec (Writes me.op) → at (put_all S (stores_now S me) c.state) x ≡ at c.state x
         go (yes w) = L.frame _ _ _ _ v.good x (n w)
         go (no f) = ap (λ xs. at (put_all S xs c.state) x) (L.quiet me.op me.made me.held f)
 
@@ -189,14 +189,14 @@ module _ (S : System) (L : Laws S) where
       where
         go : Dec (Writes me.op) → at σ x ≡ at (first S me.op k σ).1 x
         go (yes w) = sym (first_frame S L me.op k σ σ_good x (n w))
-        go (no f) = ap (λ s. at s x) (sym (first-quiet S L me.op k σ f))
+        go (no f) = ap (λ s. at s x) (sym (first_quiet S L me.op k σ f))
 
     -- the others, with k of its accesses added to the ended operations
     others_fine : (k j : ℕ) → (j ≡ i → ⊥) → Fine S (first S me.op k σ).1 d.state (c.slots j)
     others_fine k j n =
         carry σ _ c.state d.state (c.slots j) (v.fine j)
         (λ a. record { same = shaped_next; on = λ x t. stays x (λ w p. clash j n a x p t (inl w)) })
-        (λ a. record { same = sym (first-keeps S L me.op k σ); on = λ x t. whole_stays k x (λ w p. clash j n a x p t (inl w)) })
+        (λ a. record { same = sym (first_keeps S L me.op k σ); on = λ x t. whole_stays k x (λ w p. clash j n a x p t (inl w)) })
 
     -- not its last
     inv_more : d.slots i ≡ advanced S me c.state → Inv S ρ d.slots d.state c.log
@@ -206,7 +206,7 @@ module _ (S : System) (L : Laws S) where
           shaped = shaped_next ∙ v.shaped;
           good = good_next;
           fine = by_slot S c.slots d.slots i m.others (Fine S σ d.state)
-              (subst (Fine S σ d.state) (sym e) (record { held = λ b. held_next; done = λ b. done_next; seen = λ a. state_next }))
+              (subst (Fine S σ d.state) (sym e) (record { held = λ b. held_next_lem; done = λ b. done_next; seen = λ a. state_next }))
               (others_fine 0);
           rest = λ x h.
               stays x (mine x h)
@@ -240,13 +240,13 @@ module _ (S : System) (L : Laws S) where
         end = finishes S me c.state
 
         σ' : State
-        σ' = wholeState S me.op σ
+        σ' = whole_state S me.op σ
 
         idle : Busy S (d.slots i) → ⊥
         idle b = true≢false (sym b ∙ e)
 
         value : end.got ≡ whole_answer S me.op σ
-        value = ap (answer me.op) (held_next ∙ ap (λ k. (first S me.op k σ).0) f)
+        value = ap (answer me.op) (held_next_lem ∙ ap (λ k. (first S me.op k σ).0) f)
 
         go : (x : Cell) → ((j : ℕ) → Mine S (d.slots j) x → ⊥) → Dec (Touch me.op x) → at d.state x ≡ at σ' x
         go x h (yes t) = state_next.on x t ∙ ap (λ k. at (first S me.op k σ).1 x) f
@@ -274,17 +274,17 @@ module _ (S : System) (L : Laws S) where
       unmade : Active S (begun S o) → ⊥
       unmade a = omega (arith, a.1)
 
-  pub inv-move : (ρ : State) → Good ρ → (c d : Conf S) → Holds S ρ c → Apart S c.slots → Move S c d → Holds S ρ d
-  inv-move ρ g c d v apart (stay p q r) =
+  pub inv_move : (ρ : State) → Good ρ → (c d : Conf S) → Holds S ρ c → Apart S c.slots → Move S c d → Holds S ρ d
+  inv_move ρ g c d v apart (stay p q r) =
       subst (Holds S ρ) (λ k. record { slots = fun_ext (λ j. sym (p j)) k; state = sym q k; log = sym r k }) v
-  inv-move ρ g c d v apart (begin i o was others e q r) =
+  inv_move ρ g c d v apart (begin i o was others e q r) =
       subst (λ s. Inv S ρ d.slots s d.log) (sym q)
       (subst (λ l. Inv S ρ d.slots c.state l) (sym r) (inv_begin ρ c.slots d.slots c.state c.log i o v was others e))
-  inv-move ρ g c d v apart (more i m e r) = subst (λ l. Inv S ρ d.slots d.state l) (sym r) (inv_more ρ g c d v apart i m e)
-  inv-move ρ g c d v apart (last i m e f r) = subst (λ l. Inv S ρ d.slots d.state l) (sym r) (inv_last ρ g c d v apart i m e f)
+  inv_move ρ g c d v apart (more i m e r) = subst (λ l. Inv S ρ d.slots d.state l) (sym r) (inv_more ρ g c d v apart i m e)
+  inv_move ρ g c d v apart (last i m e f r) = subst (λ l. Inv S ρ d.slots d.state l) (sym r) (inv_last ρ g c d v apart i m e f)
 
-  pub inv-fresh : (c : Conf S) → Good c.state → Fresh S c → Holds S c.state c
-  inv-fresh c g f =
+  pub inv_fresh : (c : Conf S) → Good c.state → Fresh S c → Holds S c.state c
+  inv_fresh c g f =
       subst (λ l. Inv S c.state c.slots c.state l) (sym f.1)
       (record {
         answers = refl;
@@ -298,6 +298,6 @@ module _ (S : System) (L : Laws S) where
       idle : (j : ℕ) → Busy S (c.slots j) → ⊥
       idle j b = true≢false (sym b ∙ f.0 j)
 
-  pub inv-run : (c d : Conf S) → Good c.state → Fresh S c → Run S (Apart S) c d → Holds S c.state d × Apart S d.slots
-  inv-run c d g f (here p) = (inv-fresh c g f, p)
-  inv-run c d g f (then {d = b} r m p) = let (v, q) = inv-run c b g f r in (inv-move c.state g b d v q m, p)
+  pub inv_run : (c d : Conf S) → Good c.state → Fresh S c → Run S (Apart S) c d → Holds S c.state d × Apart S d.slots
+  inv_run c d g f (here p) = (inv_fresh c g f, p)
+  inv_run c d g f (then {d = b} r m p) = let (v, q) = inv_run c b g f r in (inv_move c.state g b d v q m, p)

@@ -57,7 +57,7 @@ module _ (S : System) where
     -- an operation that does not write makes no store
     pub quiet : (o : Op) (k : ℕ) (h : Held) → (Writes o → ⊥) → stores o k h ≡ []
     -- from states that agree on its footprint an access holds the same, and leaves the same there
-    pub local-held : (o : Op) (k : ℕ) (h : Held) (s t : State) → Agree o s t → load o k h s ≡ load o k h t
+    pub local_held : (o : Op) (k : ℕ) (h : Held) (s t : State) → Agree o s t → load o k h s ≡ load o k h t
     pub local_at : (o : Op) (k : ℕ) (h : Held) (s t : State) → Agree o s t → (c : Cell) → Touch o c
         → at (put_all (stores o k h) s) c ≡ at (put_all (stores o k h) t) c
 
@@ -71,17 +71,17 @@ module _ (S : System) where
   abbrev pub whole_answer : Op → State → Answer
   whole_answer o s = answer o (first o (total o) s).0
 
-  abbrev pub wholeState : Op → State → State
-  wholeState o s = (first o (total o) s).1
+  abbrev pub whole_state : Op → State → State
+  whole_state o s = (first o (total o) s).1
 
   -- operations run whole, one after another
-  abbrev pub stateAfter : List Op → State → State
-  stateAfter [] s = s
-  stateAfter (o ∷ os) s = stateAfter os (wholeState o s)
+  abbrev pub state_after : List Op → State → State
+  state_after [] s = s
+  state_after (o ∷ os) s = state_after os (whole_state o s)
 
   abbrev pub answers_of : List Op → State → List Answer
   answers_of [] s = []
-  answers_of (o ∷ os) s = whole_answer o s ∷ answers_of os (wholeState o s)
+  answers_of (o ∷ os) s = whole_answer o s ∷ answers_of os (whole_state o s)
 
   -- ---- tasks
 
@@ -114,8 +114,8 @@ module _ (S : System) where
   abbrev pub ops_of : List Ended → List Op
   ops_of l = map (λ (e : Ended). e.op) l
 
-  abbrev pub gotOf : List Ended → List Answer
-  gotOf l = map (λ (e : Ended). e.got) l
+  abbrev pub got_of : List Ended → List Answer
+  got_of l = map (λ (e : Ended). e.got) l
 
   -- The premise, at one moment: any two operations under way together that touch a common cell, one of them writing, both carry the lock rule.
   abbrev pub Apart : (ℕ → Slot) → Type 0
@@ -131,17 +131,17 @@ module _ (S : System) where
   begun o = record { busy = true; op = o; made = 0; held = nothing; done = [] }
 
   -- the next access of a task: its stores, and what is held after it
-  abbrev pub storesNow : Slot → List Store
-  storesNow x = stores x.op x.made x.held
+  abbrev pub stores_now : Slot → List Store
+  stores_now x = stores x.op x.made x.held
 
-  abbrev pub heldNext : Slot → State → Held
-  heldNext x s = load x.op x.made x.held s
+  abbrev pub held_next : Slot → State → Held
+  held_next x s = load x.op x.made x.held s
 
   abbrev pub advanced : Slot → State → Slot
-  advanced x s = record { busy = true; op = x.op; made = suc x.made; held = heldNext x s; done = x.done ++ storesNow x }
+  advanced x s = record { busy = true; op = x.op; made = suc x.made; held = held_next x s; done = x.done ++ stores_now x }
 
   abbrev pub finishes : Slot → State → Ended
-  finishes x s = record { op = x.op; got = answer x.op (heldNext x s) }
+  finishes x s = record { op = x.op; got = answer x.op (held_next x s) }
 
   -- no task changes but i
   abbrev pub Others : (ℕ → Slot) → (ℕ → Slot) → ℕ → Type 0
@@ -151,7 +151,7 @@ module _ (S : System) where
   pub record NextAccess (c d : Conf) (i : ℕ) : Type 0 where
     pub busy : Busy (c.slots i)
     pub others : Others c.slots d.slots i
-    pub state : d.state ≡ put_all (storesNow (c.slots i)) c.state
+    pub state : d.state ≡ put_all (stores_now (c.slots i)) c.state
     pub free : (c.slots i).made ≡ 0 → Lock (c.slots i).op → (j : ℕ) → (j ≡ i → ⊥) → Active (c.slots j) → Lock (c.slots j).op → ⊥
 
   -- refused; an accepted start; an accepted step that is not the last; the last
@@ -186,11 +186,11 @@ module _ (S : System) where
   abbrev pub AtEveryMoment : Type 0
   AtEveryMoment =
       (n : ℕ) (c d : Conf) → Good c.state → Fresh c → Run Apart c d → ((j : ℕ) → n ≤ j → (d.slots j).busy ≡ false)
-      → (d.state ≡ overlay d.slots n (stateAfter (ops_of d.log) c.state))
-      × (gotOf d.log ≡ answers_of (ops_of d.log) c.state)
+      → (d.state ≡ overlay d.slots n (state_after (ops_of d.log) c.state))
+      × (got_of d.log ≡ answers_of (ops_of d.log) c.state)
 
   -- once all have ended
   abbrev pub OnceAllEnded : Type 0
   OnceAllEnded =
       (c d : Conf) → Good c.state → Fresh c → Run Apart c d → ((j : ℕ) → (d.slots j).busy ≡ false)
-      → (d.state ≡ stateAfter (ops_of d.log) c.state) × (gotOf d.log ≡ answers_of (ops_of d.log) c.state)
+      → (d.state ≡ state_after (ops_of d.log) c.state) × (got_of d.log ≡ answers_of (ops_of d.log) c.state)

@@ -6,7 +6,7 @@ use Prim.Native.Nat.{ℕ}
 use types.Run.{OneOf, miss}
 use Rattle.types.specs.declared.refusal.Refusal.{Refusal}
 use Rattle.types.specs.declared.refusal.Refusal.TheVariants as R
-use Rattle.types.specs.declared.refusal.CarriedTypes.TheVariants as T
+use Rattle.types.specs.declared.refusal.Types.TheVariants as T
 use Rattle.types.specs.Refusals.{types_of}
 use Rattle.types.specs.contracts.refusal.Refusal.{the_type}
 use denote.Enum.Declared.{tag_of}

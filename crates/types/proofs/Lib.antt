@@ -3,7 +3,3 @@ pub mod Widths
 pub mod Carried
 pub mod Judging
 pub mod Tests
-pub mod OneAnswer
-pub mod Saying
-pub mod ByKind
-pub mod Lent

@@ -8,8 +8,12 @@ use Prim.Native.Nat.{ℕ, ◌*◌, ◌/◌, ◌≤◌, ◌<◌}
 use native.Mathlib.Omega.{arith}
 use lib.Dec.{T, eqb, eqb→eq}
 use lib.ListN.{length, get_or, get_or-eq_default}
-use Rattle.types.specs.Flags.{access_bits, access_width, widths, Width}
+use Rattle.types.specs.Flags.{access_bits, access_width, widths}
 use Rattle.types.proofs.Table.{at, every}
+
+-- a width of 1, 2, 4 or 8 bytes
+abbrev pub Width : ℕ → Type 0
+Width w = (w ≡ 8) ⊎ (w ≡ 16) ⊎ (w ≡ 32) ⊎ (w ≡ 64)
 
 is_width : ℕ → ℕ → Bool
 is_width k w = eqb w 8 || (eqb w 16 || (eqb w 32 || eqb w 64))

@@ -1,7 +1,7 @@
 -- Document 01, "Field units": "Flags: bits 0 to 3 access, 4 lock rule, 5 and 6 update rule (0 Preserve, 1 WriteAsOnes, 2 WriteAsZeros),
 -- 7 ignored. The access widths for types 0 to 5 are 8, 8, 16, 32, 64, 8 bits."
 -- Assumes nothing.
-use Rattle.std.specs.Prelude.{ℕ, ◌/◌, ◌%◌, ◌≡◌, Bool, ◌⊎◌, List, [], ◌∷◌, eqb, get_or}
+use Rattle.std.specs.Prelude.{ℕ, ◌/◌, ◌%◌, Bool, List, [], ◌∷◌, eqb, get_or}
 use Rattle.types.specs.declared.refusal.Refusal.TheVariants as R
 use Rattle.types.specs.declared.flags.FieldAccessType.TheVariants as A
 use Rattle.types.specs.declared.flags.FieldUpdateRule.TheVariants as U
@@ -26,10 +26,6 @@ widths = 8 ∷ 8 ∷ 16 ∷ 32 ∷ 64 ∷ 8 ∷ []
 -- the width that a flags byte says; 0 for types 6 to 15, which have none
 unfoldable pub access_width : ℕ → ℕ
 access_width flags = get_or widths (access_bits flags) 0
-
--- a width of 1, 2, 4 or 8 bytes
-abbrev pub Width : ℕ → Type 0
-Width w = (w ≡ 8) ⊎ (w ≡ 16) ⊎ (w ≡ 32) ⊎ (w ≡ 64)
 
 abbrev pub access_types : List AccessTypeAnswer
 access_types = AA.Is A.Any ∷ AA.Is A.Byte ∷ AA.Is A.Word ∷ AA.Is A.DWord ∷ AA.Is A.QWord ∷ AA.Is A.Buffer ∷ []

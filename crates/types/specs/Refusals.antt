@@ -3,8 +3,8 @@
 use Rattle.std.specs.Prelude.{ℕ, Bool, cond, List, [], ◌∷◌}
 use Rattle.types.specs.declared.refusal.Refusal.{Refusal}
 use Rattle.types.specs.declared.refusal.Refusal.TheVariants as R
-use Rattle.types.specs.declared.refusal.CarriedTypes.{CarriedTypes}
-use Rattle.types.specs.declared.refusal.CarriedTypes.TheVariants as T
+use Rattle.types.specs.declared.refusal.Types.{Types}
+use Rattle.types.specs.declared.refusal.Types.TheVariants as T
 use Rattle.types.specs.declared.refusal.Outcome.{Outcome}
 use Rattle.types.specs.declared.refusal.Outcome.TheVariants as O
 
@@ -35,7 +35,7 @@ number_of R.MalformedTable = 31
 number_of R.MalformedJob = 40
 
 -- "1 adds the present and wanted types; 3, 4, 5 the type met"
-abbrev pub types_of : Refusal → CarriedTypes
+abbrev pub types_of : Refusal → Types
 types_of (R.IncompatibleValueConversion a b) = T.Conversion a b
 types_of (R.TypeCannotBeWrittenToBufferField t) = T.Met t
 types_of (R.TypeCannotBeCompared t) = T.Met t

@@ -1,6 +1,6 @@
 -- Document 01, "The part taken": the values and their types.
 -- Assumes nothing.
-use Rattle.std.specs.Prelude.{ℕ, Bool, eqb}
+use Rattle.std.specs.Prelude.{ℕ}
 use Rattle.types.specs.declared.value.AmlType.{AmlType}
 use Rattle.types.specs.declared.value.AmlType.TheVariants as T
 use Rattle.types.specs.declared.value.AmlValue.{AmlValue}
@@ -38,6 +38,3 @@ type_number_of T.PowerResource = 11
 type_number_of T.Processor = 12
 type_number_of T.ThermalZone = 13
 type_number_of T.BufferField = 14
-
-abbrev pub same_type : AmlType → AmlType → Bool
-same_type a b = eqb (type_number_of a) (type_number_of b)

@@ -1,7 +1,5 @@
 // What the layer's values, fields and refusals are. Names are those of the crate aml (value.rs); numbers are document 01's.
 // No public function has a `requires`.
-pub mod answer; // what a call answers
 pub mod flags; // a field's flags byte: access type, lock rule, update rule
-pub mod limit; // how many bytes may be lent, how long integers and fields are
 pub mod refusal; // why a call was refused
 pub mod value; // values, their types, the spaces a region lies in

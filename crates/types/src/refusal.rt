@@ -34,7 +34,7 @@ pub enum Refusal {
 
 // The types that a refusal carries.
 #[derive(Drop)]
-pub enum CarriedTypes {
+pub enum Types {
     Nothing,
     Met(AmlType),
     Conversion { current: AmlType, target: AmlType },
@@ -83,17 +83,17 @@ pub fn number(r: Refusal) -> u8
 }
 
 // 1 carries the present and the wanted type; 3, 4 and 5 the type met.
-pub fn types_of(r: Refusal) -> CarriedTypes
+pub fn types_of(r: Refusal) -> Types
     ensures { result ≡ types_of r }
 {
     match r {
-        Refusal::IncompatibleValueConversion { current, target } => CarriedTypes::Conversion {
+        Refusal::IncompatibleValueConversion { current, target } => Types::Conversion {
             current,
             target,
         },
-        Refusal::TypeCannotBeWrittenToBufferField(t) => CarriedTypes::Met(t),
-        Refusal::TypeCannotBeCompared(t) => CarriedTypes::Met(t),
-        Refusal::TypeCannotBeSliced(t) => CarriedTypes::Met(t),
-        _ => CarriedTypes::Nothing,
+        Refusal::TypeCannotBeWrittenToBufferField(t) => Types::Met(t),
+        Refusal::TypeCannotBeCompared(t) => Types::Met(t),
+        Refusal::TypeCannotBeSliced(t) => Types::Met(t),
+        _ => Types::Nothing,
     }
 }

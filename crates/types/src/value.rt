@@ -1,6 +1,5 @@
 // Values. A String's and a Buffer's bytes, a BufferField's buffer and a FieldUnit's region are lent beside the value as a slice.
 ghost use Rattle.std.specs.Prelude.{◌≡◌};
-ghost use Rattle.bits.specs.Integers.{integer_bits, truth_number};
 ghost use Rattle.types.specs.Values.{type_of, type_number_of};
 
 use crate::flags::FieldFlags;
@@ -88,13 +87,6 @@ pub fn type_of(value: AmlValue) -> AmlType
         AmlValue::PowerResource => AmlType::PowerResource,
         AmlValue::ThermalZone => AmlType::ThermalZone,
     }
-}
-
-// A Boolean as an Integer: true is all ones.
-pub fn truth_number(b: bool) -> u64
-    ensures { result ≡ truth_number integer_bits b }
-{
-    if b { 0xffff_ffff_ffff_ffff } else { 0 }
 }
 
 // ACPI's number of a type, as ObjectType gives it (6.4, 19.6.97).

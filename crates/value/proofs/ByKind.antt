@@ -1,122 +1,172 @@
 -- What each kind of value converts to, by its line in the definitions; and that a value of a kind which a conversion does not name is refused by 1,
 -- with its type as the present one.
 -- Assumes nothing.
-use mathlib.Core.Path.{◌≡◌, refl, ◌∙◌}
-use mathlib.Core.Bool.{Bool, true, false, cond, not}
+use mathlib.Core.Path.{◌≡◌, refl}
+use mathlib.Core.Bool.{Bool, false, not}
 use mathlib.Core.List.{List, [], ◌∷◌}
-use Prim.Native.Nat.{ℕ, ◌^◌, ◌≤◌, ◌<◌}
-use native.Mathlib.Nat.{mod-eq_of_lt}
+use Prim.Native.Nat.{ℕ}
 use lib.Dec.{eqb}
-use lib.ListN.{length}
 use denote.Enum.Declared.{tag_of}
 use types.Run.{OneOf, miss}
-use Rattle.bits.specs.Integers.{truth_number, first_bytes}
-use Rattle.types.specs.Values.{type_of, same_type}
-use Rattle.types.specs.Limits.{most_bytes}
-use Rattle.types.specs.Answers.{given, refused, truth, number, text, bytes, gives, an_integer, a_buffer}
-use Rattle.types.specs.Held.{boolean, integer, string, buffer, plain, buffer_field, field_unit, held_by, unread, plain_type}
+use Rattle.types.specs.Values.{type_of}
 use Rattle.types.specs.declared.value.AmlType.{AmlType}
 use Rattle.types.specs.declared.value.AmlType.TheVariants as T
 use Rattle.types.specs.declared.value.AmlValue.{AmlValue}
 use Rattle.types.specs.declared.value.AmlValue.TheVariants as Val
 use Rattle.types.specs.declared.value.FieldUnit.{FieldUnit}
 use Rattle.types.specs.contracts.value.AmlValue.{the_type}
-use Rattle.types.proofs.ByKind.{by_kind, by-kind-unread, type_held}
-use Rattle.value.specs.Conversions.{read, read_unit, no_conversion, integer_of, bool_of, buffer_of, string_of, to_integer, to_bool, to_buffer, to_string}
-use Rattle.value.specs.ToInteger.{text_number, text_said, parsed}
-use Rattle.value.specs.Calls.{as_integer, as_bool, as_buffer, as_string, def_to_integer}
-use Rattle.value.proofs.Lent.{asInteger-short, asBool-short, asBuffer-short, asString-short, defToInteger-short}
+use Rattle.value.specs.Conversions.{Held, boolean, integer, string, buffer, buffer_field, field_unit, kind, held_by, truth_number, buffer_number, buffer_field_content, field_unit_content, no, content_integer, to_integer, to_bool, these, none, content_buffer, to_buffer, content_string, to_string, same_type}
+use Rattle.value.specs.Integers.{text_answer, text_number, parsed}
+use Rattle.value.specs.declared.convert.IntegerAnswer.TheVariants as IA
+use Rattle.value.specs.declared.convert.BoolAnswer.TheVariants as BA
 
--- ---- the kinds that a conversion names
-module _ (w : ℕ) where
-  pub integer-of-boolean : (b : Bool) → to_integer w (plain (boolean b)) ≡ given (truth_number w b)
-  unfolding to_integer read integer_of
-  integer-of-boolean b = refl
+-- ---- to integer
+pub integer_of_boolean : (b : Bool) → to_integer (boolean b) ≡ IA.Integer (truth_number b)
+unfolding to_integer
+integer_of_boolean b = refl
 
-  pub integer-of-integer : (n : ℕ) → to_integer w (plain (integer n)) ≡ given n
-  unfolding to_integer read integer_of
-  integer-of-integer n = refl
+pub integer_of_integer : (n : ℕ) → to_integer (integer n) ≡ IA.Integer n
+unfolding to_integer
+integer_of_integer n = refl
 
-  pub integer-of-buffer : (s : List ℕ) → to_integer w (plain (buffer s)) ≡ given (first_bytes w s)
-  unfolding to_integer read integer_of
-  integer-of-buffer s = refl
+pub integer_of_string : (s : List ℕ) → to_integer (string s) ≡ IA.Refused (no T.String T.Integer)
+unfolding to_integer
+integer_of_string s = refl
 
-  pub buffer-of-buffer : (s : List ℕ) → to_buffer w (plain (buffer s)) ≡ given s
-  unfolding to_buffer read buffer_of
-  buffer-of-buffer s = refl
+pub integer_of_buffer : (s : List ℕ) → to_integer (buffer s) ≡ IA.Integer (buffer_number s)
+unfolding to_integer
+integer_of_buffer s = refl
 
-  pub string-of-string : (s : List ℕ) → to_string w (plain (string s)) ≡ given s
-  unfolding to_string read_unit string_of
-  string-of-string s = refl
+pub integer_of_buffer_field : (o n : ℕ) (s : List ℕ) → to_integer (buffer_field o n s) ≡ content_integer (buffer_field_content o n s)
+unfolding to_integer
+integer_of_buffer_field o n s = refl
+
+pub integer_of_field_unit : (f : FieldUnit) (s : List ℕ) → to_integer (field_unit f s) ≡ content_integer (field_unit_content f s)
+unfolding to_integer
+integer_of_field_unit f s = refl
+
+pub integer_of_kind : (t : AmlType) → to_integer (kind t) ≡ IA.Refused (no t T.Integer)
+unfolding to_integer
+integer_of_kind t = refl
+
+-- ---- to bool
+pub bool_of_boolean : (b : Bool) → to_bool (boolean b) ≡ BA.Bool b
+unfolding to_bool
+bool_of_boolean b = refl
+
+pub bool_of_integer : (n : ℕ) → to_bool (integer n) ≡ BA.Bool (not (eqb n 0))
+unfolding to_bool
+bool_of_integer n = refl
+
+-- ---- to buffer
+pub buffer_of_boolean : (b : Bool) → to_buffer (boolean b) ≡ none (no T.Integer T.Buffer)
+unfolding to_buffer
+buffer_of_boolean b = refl
+
+pub buffer_of_integer : (n : ℕ) → to_buffer (integer n) ≡ none (no T.Integer T.Buffer)
+unfolding to_buffer
+buffer_of_integer n = refl
+
+pub buffer_of_string : (s : List ℕ) → to_buffer (string s) ≡ none (no T.String T.Buffer)
+unfolding to_buffer
+buffer_of_string s = refl
+
+pub buffer_of_buffer : (s : List ℕ) → to_buffer (buffer s) ≡ these s
+unfolding to_buffer
+buffer_of_buffer s = refl
+
+pub buffer_of_buffer_field : (o n : ℕ) (s : List ℕ) → to_buffer (buffer_field o n s) ≡ content_buffer (buffer_field_content o n s)
+unfolding to_buffer
+buffer_of_buffer_field o n s = refl
+
+pub buffer_of_field_unit : (f : FieldUnit) (s : List ℕ) → to_buffer (field_unit f s) ≡ content_buffer (field_unit_content f s)
+unfolding to_buffer
+buffer_of_field_unit f s = refl
+
+pub buffer_of_kind : (t : AmlType) → to_buffer (kind t) ≡ none (no t T.Buffer)
+unfolding to_buffer
+buffer_of_kind t = refl
+
+-- ---- to string
+pub string_of_boolean : (b : Bool) → to_string (boolean b) ≡ none (no T.Integer T.String)
+unfolding to_string
+string_of_boolean b = refl
+
+pub string_of_integer : (n : ℕ) → to_string (integer n) ≡ none (no T.Integer T.String)
+unfolding to_string
+string_of_integer n = refl
+
+pub string_of_string : (s : List ℕ) → to_string (string s) ≡ these s
+unfolding to_string
+string_of_string s = refl
+
+pub string_of_buffer : (s : List ℕ) → to_string (buffer s) ≡ none (no T.Buffer T.String)
+unfolding to_string
+string_of_buffer s = refl
+
+pub string_of_buffer_field : (o n : ℕ) (s : List ℕ) → to_string (buffer_field o n s) ≡ none (no T.BufferField T.String)
+unfolding to_string
+string_of_buffer_field o n s = refl
+
+pub string_of_field_unit : (f : FieldUnit) (s : List ℕ) → to_string (field_unit f s) ≡ content_string (field_unit_content f s)
+unfolding to_string
+string_of_field_unit f s = refl
+
+pub string_of_kind : (t : AmlType) → to_string (kind t) ≡ none (no t T.String)
+unfolding to_string
+string_of_kind t = refl
+
+-- ---- ToInteger
+pub parsed_integer : (n : ℕ) → parsed (integer n) ≡ IA.Integer n
+unfolding parsed
+parsed_integer n = refl
+
+pub parsed_string : (s : List ℕ) → parsed (string s) ≡ text_answer (text_number s)
+unfolding parsed
+parsed_string s = refl
+
+pub parsed_buffer : (s : List ℕ) → parsed (buffer s) ≡ IA.Integer (buffer_number s)
+unfolding parsed
+parsed_buffer s = refl
 
 -- ---- the kinds that a conversion does not name
 
--- the places of the kinds in the enum: 0 Boolean, 1 Integer, 2 String, 3 Buffer, 4 BufferField, 5 Field, then the contentless ones
-abbrev contentless : List ℕ
-contentless = 6 ∷ 7 ∷ 8 ∷ 9 ∷ 10 ∷ 11 ∷ 12 ∷ 13 ∷ []
+-- the places of the kinds in the enum: Boolean, Integer, String, Buffer, BufferField, Field, then the contentless ones
+module _ {A : Type 0} (Met : AmlType → ℕ → Type 0) (f : Held → A) (refused : AmlType → A) (s : List ℕ) where
+  -- a conversion that refuses what is met, by its type and place, refuses each such value by its type
+  by_kind : ((b : Bool) → Met T.Integer 0 → f (boolean b) ≡ refused T.Integer)
+      → ((n : ℕ) → Met T.Integer 1 → f (integer n) ≡ refused T.Integer)
+      → (Met T.String 2 → f (string s) ≡ refused T.String)
+      → (Met T.Buffer 3 → f (buffer s) ≡ refused T.Buffer)
+      → ((o n : ℕ) → Met T.BufferField 4 → f (buffer_field o n s) ≡ refused T.BufferField)
+      → ((u : FieldUnit) → Met T.FieldUnit 5 → f (field_unit u s) ≡ refused T.FieldUnit)
+      → ((t : AmlType) → f (kind t) ≡ refused t)
+      → (v : AmlValue) → Met (type_of v) (tag_of the_type v) → f (held_by v s) ≡ refused (type_of v)
+  by_kind p0 p1 p2 p3 p4 p5 p6 (Val.Boolean b) k = p0 b k
+  by_kind p0 p1 p2 p3 p4 p5 p6 (Val.Integer n) k = p1 n k
+  by_kind p0 p1 p2 p3 p4 p5 p6 Val.String k = p2 k
+  by_kind p0 p1 p2 p3 p4 p5 p6 Val.Buffer k = p3 k
+  by_kind p0 p1 p2 p3 p4 p5 p6 (Val.BufferField o n) k = p4 o n k
+  by_kind p0 p1 p2 p3 p4 p5 p6 (Val.Field u) k = p5 u k
+  by_kind p0 p1 p2 p3 p4 p5 p6 Val.OpRegion k = p6 T.OpRegion
+  by_kind p0 p1 p2 p3 p4 p5 p6 Val.Device k = p6 T.Device
+  by_kind p0 p1 p2 p3 p4 p5 p6 Val.Method k = p6 T.Method
+  by_kind p0 p1 p2 p3 p4 p5 p6 Val.Processor k = p6 T.Processor
+  by_kind p0 p1 p2 p3 p4 p5 p6 Val.Mutex k = p6 T.Mutex
+  by_kind p0 p1 p2 p3 p4 p5 p6 Val.Package k = p6 T.Package
+  by_kind p0 p1 p2 p3 p4 p5 p6 Val.PowerResource k = p6 T.PowerResource
+  by_kind p0 p1 p2 p3 p4 p5 p6 Val.ThermalZone k = p6 T.ThermalZone
 
--- of which no bytes are read
-abbrev pub bytes_unread : List ℕ
-bytes_unread = 0 ∷ 1 ∷ 2 ∷ contentless
-
+-- all but the two of type Integer
 abbrev pub not_bool : List ℕ
-not_bool = 2 ∷ 3 ∷ 4 ∷ 5 ∷ contentless
+not_bool = 2 ∷ 3 ∷ 4 ∷ 5 ∷ 6 ∷ 7 ∷ 8 ∷ 9 ∷ 10 ∷ 11 ∷ 12 ∷ 13 ∷ []
 
-abbrev pub not_string : List ℕ
-not_string = 0 ∷ 1 ∷ 3 ∷ 4 ∷ contentless
-
-abbrev pub not_parsed : List ℕ
-not_parsed = 0 ∷ 4 ∷ 5 ∷ contentless
-
-either_way : {A : Type 0} (b : Bool) (x : A) → cond b x x ≡ x
-either_way true x = refl
-either_way false x = refl
-
-module _ (w : ℕ) (v : AmlValue) (s : List ℕ) where
-  -- a number has been converted before
-  pub no-integer : OneOf bytes_unread (tag_of the_type v) → same_type (type_of v) T.Integer ≡ false
-      → to_integer w (held_by w v s) ≡ refused (no_conversion (type_of v) T.Integer)
-  unfolding to_integer read integer_of
-  no-integer k d =
-      rw (type_held w v s, d) at
-      (by_kind (OneOf bytes_unread)
-      (λ h. cond (same_type (plain_type (unread h)) T.Integer) (refused (no_conversion (plain_type (unread h)) T.Integer)) (to_integer w h))
-      (λ t. refused (no_conversion t T.Integer)) w s
-      (λ b k. refl) (λ n k. refl) (λ k. refl) (λ k. absurd (miss bytes_unread 3 tt k)) (λ o n k. absurd (miss bytes_unread 4 tt k))
-      (λ u k. absurd (miss bytes_unread 5 tt k)) (λ t. either_way (same_type t T.Integer) (refused (no_conversion t T.Integer))) v k)
-
-  pub no_bool : OneOf not_bool (tag_of the_type v) → to_bool (held_by w v s) ≡ refused (no_conversion (type_of v) T.Integer)
-  unfolding to_bool bool_of
-  no_bool =
-      by-kind-unread (OneOf not_bool) bool_of (λ t. refused (no_conversion t T.Integer)) w s
-      (λ b k. absurd (miss not_bool 0 tt k)) (λ n k. absurd (miss not_bool 1 tt k)) (λ k. refl) (λ k. refl) (λ t. refl) v
-
-  pub no_buffer : OneOf bytes_unread (tag_of the_type v) → to_buffer w (held_by w v s) ≡ refused (no_conversion (type_of v) T.Buffer)
-  unfolding to_buffer read buffer_of
-  no_buffer =
-      by_kind (OneOf bytes_unread) (to_buffer w) (λ t. refused (no_conversion t T.Buffer)) w s
-      (λ b k. refl) (λ n k. refl) (λ k. refl) (λ k. absurd (miss bytes_unread 3 tt k)) (λ o n k. absurd (miss bytes_unread 4 tt k))
-      (λ u k. absurd (miss bytes_unread 5 tt k)) (λ t. refl) v
-
-  pub no-string : OneOf not_string (tag_of the_type v) → to_string w (held_by w v s) ≡ refused (no_conversion (type_of v) T.String)
-  unfolding to_string read_unit string_of
-  no-string =
-      by_kind (OneOf not_string) (to_string w) (λ t. refused (no_conversion t T.String)) w s
-      (λ b k. refl) (λ n k. refl) (λ k. absurd (miss not_string 2 tt k)) (λ k. refl) (λ o n k. refl)
-      (λ u k. absurd (miss not_string 5 tt k)) (λ t. refl) v
-
-  pub no-parsed : OneOf not_parsed (tag_of the_type v) → parsed w (unread (held_by w v s)) ≡ refused (no_conversion (type_of v) T.Integer)
-  unfolding parsed
-  no-parsed =
-      by-kind-unread (OneOf not_parsed) (parsed w) (λ t. refused (no_conversion t T.Integer)) w s
-      (λ b k. refl) (λ n k. absurd (miss not_parsed 1 tt k)) (λ k. absurd (miss not_parsed 2 tt k)) (λ k. absurd (miss not_parsed 3 tt k)) (λ t. refl) v
-
--- the kinds that are no number themselves
-abbrev no_integer : List ℕ
-no_integer = 0 ∷ not_bool
-
+-- all but the first, Boolean; all but the second, Integer
 abbrev no_boolean : List ℕ
 no_boolean = 1 ∷ not_bool
+
+abbrev no_integer : List ℕ
+no_integer = 0 ∷ not_bool
 
 pub no_number : (v : AmlValue) → OneOf no_integer (tag_of the_type v) → OneOf no_boolean (tag_of the_type v) → same_type (type_of v) T.Integer ≡ false
 no_number (Val.Boolean b) k l = absurd (miss no_boolean 0 tt l)
@@ -134,65 +184,44 @@ no_number Val.Package k l = refl
 no_number Val.PowerResource k l = refl
 no_number Val.ThermalZone k l = refl
 
--- ---- the calls, by the kind of their value
-module _ (w : ℕ) (v : AmlValue) (s : List ℕ) (l : length s ≤ most_bytes) where
-  pub asInteger-integer : (n : ℕ) → n < 2 ^ w → v ≡ Val.Integer n → as_integer w v s ≡ gives (number n)
-  asInteger-integer n h e = asInteger-short w v s l ∙ rw (e, mod-eq_of_lt h, integer-of-integer w n)
+-- all but Buffer, BufferField and Field: no bytes are read of them
+abbrev pub unread : List ℕ
+unread = 0 ∷ 1 ∷ 2 ∷ 6 ∷ 7 ∷ 8 ∷ 9 ∷ 10 ∷ 11 ∷ 12 ∷ 13 ∷ []
 
-  pub asInteger-boolean : (b : Bool) (x : ℕ) → x ≡ truth_number w b → v ≡ Val.Boolean b → as_integer w v s ≡ gives (number x)
-  asInteger-boolean b x d e = asInteger-short w v s l ∙ rw (e, d, integer-of-boolean w b)
+abbrev pub not_string : List ℕ
+not_string = 0 ∷ 1 ∷ 3 ∷ 4 ∷ 6 ∷ 7 ∷ 8 ∷ 9 ∷ 10 ∷ 11 ∷ 12 ∷ 13 ∷ []
 
-  pub asInteger-buffer : (x : ℕ) → x ≡ first_bytes w s → v ≡ Val.Buffer → as_integer w v s ≡ gives (number x)
-  asInteger-buffer x d e = asInteger-short w v s l ∙ rw (e, d, integer-of-buffer w s)
+abbrev pub not_parsed : List ℕ
+not_parsed = 0 ∷ 4 ∷ 5 ∷ 6 ∷ 7 ∷ 8 ∷ 9 ∷ 10 ∷ 11 ∷ 12 ∷ 13 ∷ []
 
-  pub asInteger-field : (o n : ℕ) → v ≡ Val.BufferField o n → as_integer w v s ≡ an_integer (to_integer w (buffer_field o n s))
-  asInteger-field o n e = asInteger-short w v s l ∙ rw e
+module _ (v : AmlValue) (s : List ℕ) where
+  pub no_integer_lem : OneOf unread (tag_of the_type v) → same_type (type_of v) T.Integer ≡ false → to_integer (held_by v s) ≡ IA.Refused (no (type_of v) T.Integer)
+  unfolding to_integer
+  no_integer_lem k d =
+      by_kind (λ t k. OneOf unread k × (same_type t T.Integer ≡ false)) to_integer (λ t. IA.Refused (no t T.Integer)) s
+      (λ b k. cc k.1) (λ n k. cc k.1) (λ k. refl) (λ k. absurd (miss unread 3 tt k.0)) (λ o n k. absurd (miss unread 4 tt k.0))
+      (λ u k. absurd (miss unread 5 tt k.0)) (λ t. refl) v (k, d)
 
-  pub asInteger-unit : (f : FieldUnit) → v ≡ Val.Field f → as_integer w v s ≡ an_integer (to_integer w (field_unit f s))
-  asInteger-unit f e = asInteger-short w v s l ∙ rw e
+  pub no_bool : OneOf not_bool (tag_of the_type v) → to_bool (held_by v s) ≡ BA.Refused (no (type_of v) T.Integer)
+  unfolding to_bool
+  no_bool =
+      by_kind (λ t. OneOf not_bool) to_bool (λ t. BA.Refused (no t T.Integer)) s (λ b k. absurd (miss not_bool 0 tt k)) (λ n k. absurd (miss not_bool 1 tt k))
+      (λ k. refl) (λ k. refl) (λ o n k. refl) (λ u k. refl) (λ t. refl) v
 
-  pub asBool-boolean : (b : Bool) → v ≡ Val.Boolean b → as_bool w v s ≡ gives (truth b)
-  unfolding to_bool bool_of
-  asBool-boolean b e = asBool-short w v s l ∙ rw e
+  pub no_buffer : OneOf unread (tag_of the_type v) → to_buffer (held_by v s) ≡ none (no (type_of v) T.Buffer)
+  unfolding to_buffer
+  no_buffer =
+      by_kind (λ t. OneOf unread) to_buffer (λ t. none (no t T.Buffer)) s (λ b k. refl) (λ n k. refl) (λ k. refl) (λ k. absurd (miss unread 3 tt k))
+      (λ o n k. absurd (miss unread 4 tt k)) (λ u k. absurd (miss unread 5 tt k)) (λ t. refl) v
 
-  pub asBool-integer : (n : ℕ) → n < 2 ^ w → v ≡ Val.Integer n → as_bool w v s ≡ gives (truth (not (eqb n 0)))
-  unfolding to_bool bool_of
-  asBool-integer n h e = asBool-short w v s l ∙ rw (e, mod-eq_of_lt h)
+  pub no_string : OneOf not_string (tag_of the_type v) → to_string (held_by v s) ≡ none (no (type_of v) T.String)
+  unfolding to_string
+  no_string =
+      by_kind (λ t. OneOf not_string) to_string (λ t. none (no t T.String)) s (λ b k. refl) (λ n k. refl) (λ k. absurd (miss not_string 2 tt k)) (λ k. refl)
+      (λ o n k. refl) (λ u k. absurd (miss not_string 5 tt k)) (λ t. refl) v
 
-  pub asBuffer-buffer : v ≡ Val.Buffer → as_buffer w v s ≡ given (bytes s)
-  asBuffer-buffer e = asBuffer-short w v s l ∙ rw (e, buffer-of-buffer w s)
-
-  pub asBuffer-field : (o n : ℕ) → v ≡ Val.BufferField o n → as_buffer w v s ≡ a_buffer (to_buffer w (buffer_field o n s))
-  asBuffer-field o n e = asBuffer-short w v s l ∙ rw e
-
-  pub asString-string : v ≡ Val.String → as_string w v s ≡ given (text s)
-  asString-string e = asString-short w v s l ∙ rw (e, string-of-string w s)
-
-  pub parsed-integer : (n : ℕ) → n < 2 ^ w → v ≡ Val.Integer n → def_to_integer w v s ≡ gives (number n)
-  unfolding parsed integer_of
-  parsed-integer n h e = defToInteger-short w v s l ∙ rw (e, mod-eq_of_lt h)
-
-  pub parsed-buffer : (x : ℕ) → x ≡ first_bytes w s → v ≡ Val.Buffer → def_to_integer w v s ≡ gives (number x)
-  unfolding parsed integer_of
-  parsed-buffer x d e = defToInteger-short w v s l ∙ rw (e, d)
-
-  pub parsed-string : v ≡ Val.String → def_to_integer w v s ≡ an_integer (text_said s (text_number w s))
+  pub no_parsed : OneOf not_parsed (tag_of the_type v) → parsed (held_by v s) ≡ IA.Refused (no (type_of v) T.Integer)
   unfolding parsed
-  parsed-string e = defToInteger-short w v s l ∙ rw e
-
-  -- 1 for every other kind, of type t
-  module _ (t : AmlType) (d : t ≡ type_of v) where
-    pub asInteger-none : OneOf bytes_unread (tag_of the_type v) → same_type (type_of v) T.Integer ≡ false → as_integer w v s ≡ refused (no_conversion t T.Integer)
-    asInteger-none k i = asInteger-short w v s l ∙ rw (no-integer w v s k i, d)
-
-    pub asBool-none : OneOf not_bool (tag_of the_type v) → as_bool w v s ≡ refused (no_conversion t T.Integer)
-    asBool-none k = asBool-short w v s l ∙ rw (no_bool w v s k, d)
-
-    pub asBuffer-none : OneOf bytes_unread (tag_of the_type v) → as_buffer w v s ≡ refused (no_conversion t T.Buffer)
-    asBuffer-none k = asBuffer-short w v s l ∙ rw (no_buffer w v s k, d)
-
-    pub asString-none : OneOf not_string (tag_of the_type v) → as_string w v s ≡ refused (no_conversion t T.String)
-    asString-none k = asString-short w v s l ∙ rw (no-string w v s k, d)
-
-    pub parsed-none : OneOf not_parsed (tag_of the_type v) → def_to_integer w v s ≡ refused (no_conversion t T.Integer)
-    parsed-none k = defToInteger-short w v s l ∙ rw (no-parsed w v s k, d)
+  no_parsed =
+      by_kind (λ t. OneOf not_parsed) parsed (λ t. IA.Refused (no t T.Integer)) s (λ b k. refl) (λ n k. absurd (miss not_parsed 1 tt k)) (λ k. absurd (miss not_parsed 2 tt k))
+      (λ k. absurd (miss not_parsed 3 tt k)) (λ o n k. refl) (λ u k. refl) (λ t. refl) v

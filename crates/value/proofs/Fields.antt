@@ -1,194 +1,142 @@
--- A field is read first: a BufferField by its bounds and its length, a FieldUnit by its own call, which gives a number or a refusal.
+-- What a field gives where it is read: a BufferField by its bounds and its length, a FieldUnit by its own call.
 -- Of a BufferField over 64 bits the first 64 are the number, since its Buffer has the field's bits in their order.
 -- Assumes nothing.
 use mathlib.Core.Path.{◌≡◌, refl, sym, ap, ◌∙◌}
-use mathlib.Core.Bool.{false}
+use mathlib.Core.Bool.{true, false}
 use mathlib.Core.List.{List}
-use Prim.Native.Nat.{ℕ, ◌+◌, ◌-◌, ◌*◌, ◌/◌, ◌≤◌, ◌<◌, min}
+use Prim.Native.Nat.{ℕ, ◌+◌, ◌-◌, ◌*◌, ◌≤◌, ◌<◌, min}
 use native.Mathlib.Omega.{arith}
-use mir.Val.{Fits}
-use mir.Syntax.{w8}
 use lib.ListN.{length, get_or}
-use denote.Enum.Declared.{tag_of}
-use types.Run.{OneOf, miss}
-use Rattle.bits.specs.Bits as B
-use Rattle.bits.specs.Bits.{get_bits, run_bits, with_bits, bytes_for}
-use Rattle.bits.specs.Integers.{integer_bits}
-use Rattle.bits.proofs.Laws.{lt_cases, bytes_length}
-use Rattle.types.specs.Limits.{most_bytes}
+use borrow.Author.Tests.{lt-ltb, le-ltb, lt-leb, le-leb}
+use Rattle.bits.specs.Bits.{bit_at, bytes, from, get_bits, run_bits, with_bits, bytes_for}
+use Rattle.bits.proofs.Laws.{lt_cases, bit_at_lt, bit_at_bytes, run_ext, put_in, put_lt, bytes_length}
 use Rattle.types.specs.Refusals.{first_of}
-use Rattle.types.specs.Answers.{given, refused, ◌>>=◌, number, bytes, Meaning, gives, an_integer, a_string, a_buffer, Said, said, saying, told, into, delivered, Reported, reported, counting}
-use Rattle.types.specs.Held.{buffer_field, field_unit}
-use Rattle.types.specs.Contents.{Content, short, long, as_given}
-use Rattle.types.specs.declared.answer.Answer.{Answer}
-use Rattle.types.specs.declared.answer.Answer.TheVariants as A
 use Rattle.types.specs.declared.refusal.Refusal.{Refusal}
-use Rattle.types.specs.declared.refusal.Outcome.{Outcome}
+use Rattle.types.specs.declared.refusal.Refusal.TheVariants as R
 use Rattle.types.specs.declared.refusal.Outcome.TheVariants as O
-use Rattle.types.specs.declared.value.AmlType.{AmlType}
 use Rattle.types.specs.declared.value.AmlType.TheVariants as T
-use Rattle.types.specs.declared.value.AmlValue.{AmlValue}
-use Rattle.types.specs.declared.value.AmlValue.TheVariants as Val
-use Rattle.types.specs.declared.value.FieldUnit.{FieldUnit}
-use Rattle.types.specs.contracts.answer.Answer.{the_type}
-use Rattle.types.proofs.Saying.{says, heard, hears_bytes, not_integer, delivers}
-use Rattle.buffer_field.specs.BufferFields.{bounds_checks, buffer_field_content}
-use Rattle.buffer_field.proofs.Reading.{long-number, content-short, content-long, content-refused, content-given}
-use Rattle.buffer_field.proofs.Fronts.{bits_into}
-use Rattle.field_unit.specs.Checks.{field_checks}
-use Rattle.field_unit.specs.Calls.{field_unit_content, read_field}
-use Rattle.field_unit.proofs.Contents.{unit_refused, unit-short}
-use Rattle.value.specs.Conversions.{read, read_unit, no_conversion, integer_of, buffer_of, string_of, to_integer, to_buffer, to_string}
-use Rattle.value.specs.Calls.{as_buffer, as_string}
-use Rattle.value.proofs.Lent.{asBuffer-short, asString-short}
-use Rattle.value.proofs.Answering.{hands-either}
+use Rattle.buffer_field.specs.BufferFields.{bounds_checks}
+use Rattle.buffer_field.proofs.Bounds.{bounds_outside, bounds_done}
+use Rattle.field_unit.specs.declared.whole.UnitRead.{UnitRead}
+use Rattle.field_unit.specs.declared.whole.UnitRead.TheVariants as UR
+use Rattle.value.specs.Conversions.{Content, Bytes, these, number, bytes_read, refusal, buffer_field_content, unit_content, unit_refusal, content_integer, none, content_buffer, content_string, given, giving, into}
+use Rattle.value.specs.Lengths.{length_of}
+use Rattle.value.specs.declared.convert.IntegerAnswer.TheVariants as IA
+use Rattle.value.specs.declared.convert.LengthAnswer.{LengthAnswer}
+use Rattle.value.specs.declared.convert.LengthAnswer.TheVariants as LA
+use Rattle.value.proofs.Giving.{bits_into, giving_none, giving_short, giving_these}
 
--- ---- a buffer field, by its content
-module _ (w o n : ℕ) (s : List ℕ) where
-  module _ {r : Refusal} (e : buffer_field_content w o n s ≡ refused r) where
-    pub integer-of-outside : to_integer w (buffer_field o n s) ≡ refused r
-    unfolding to_integer read
-    integer-of-outside = rw e
+run_bits_lt : (s : List ℕ) (o n k : ℕ) → run_bits s o n k < 2
+run_bits_lt s o n = put_lt (λ _. 0) (λ _. omega arith) 0 n (from (bit_at s) o) (λ k. bit_at_lt s (o + k))
 
-    pub buffer-of-outside : to_buffer w (buffer_field o n s) ≡ refused r
-    unfolding to_buffer read
-    buffer-of-outside = rw e
+-- the number of a long field's Buffer
+pub long_number : (s : List ℕ) (o n : ℕ) → 64 < n → get_bits (bytes (run_bits s o n) 0 (bytes_for n)) 0 64 ≡ get_bits s o 64
+long_number s o n h =
+    run_ext (bit_at (bytes (run_bits s o n) 0 (bytes_for n))) (bit_at s) 0 o 64
+    (λ i l.
+    let z : 0 + i ≡ i = omega arith in
+    let e : i - 0 ≡ i = omega arith in
+    rw z
+    (bit_at_bytes (run_bits s o n) (run_bits_lt s o n) (bytes_for n) i (omega arith)
+    ∙ put_in (λ _. 0) 0 n (from (bit_at s) o) i (omega arith) (omega arith)
+    ∙ ap (λ (k : ℕ). bit_at s (o + k)) e))
 
-  module _ {x : ℕ} (e : buffer_field_content w o n s ≡ given (short x)) where
-    pub integer-of-short : to_integer w (buffer_field o n s) ≡ given x
-    unfolding to_integer read integer_of
-    integer-of-short = rw e
+module _ (o n : ℕ) (s : List ℕ) where
+  pub content_outside : 8 * length s < o + n → buffer_field_content o n s ≡ refusal R.BufferFieldIndexesOutOfBounds
+  unfolding buffer_field_content first_of
+  content_outside h = rw (lt-ltb (8 * length s) (o + n) h)
 
-    pub buffer-of-short : to_buffer w (buffer_field o n s) ≡ refused (no_conversion T.Integer T.Buffer)
-    unfolding to_buffer read buffer_of
-    buffer-of-short = rw e
+  module _ (h : o + n ≤ 8 * length s) where
+    pub content_number : n ≤ 64 → buffer_field_content o n s ≡ number (get_bits s o n)
+    unfolding buffer_field_content first_of
+    content_number short = rw (le-ltb (8 * length s) (o + n) h, le-leb n 64 short)
 
-  module _ {l : List ℕ} (e : buffer_field_content w o n s ≡ given (long l)) where
-    pub integer-of-long : to_integer w (buffer_field o n s) ≡ given (get_bits l 0 w)
-    unfolding to_integer read integer_of
-    integer-of-long = rw e
+    pub content_bytes : 64 < n → buffer_field_content o n s ≡ bytes_read (bytes (run_bits s o n) 0 (bytes_for n))
+    unfolding buffer_field_content first_of
+    content_bytes long = rw (le-ltb (8 * length s) (o + n) h, lt-leb n 64 long)
 
-    pub buffer-of-long : to_buffer w (buffer_field o n s) ≡ given l
-    unfolding to_buffer read buffer_of
-    buffer-of-long = rw e
+    -- to integer: the field's bits, of more than 64 the first 64
+    pub content_integer_lem : content_integer (buffer_field_content o n s) ≡ IA.Integer (get_bits s o (min n 64))
+    content_integer_lem =
+        lt_cases 64 n (content_integer (buffer_field_content o n s) ≡ IA.Integer (get_bits s o (min n 64)))
+        (λ long. let m : min n 64 ≡ 64 = omega arith in rw (content_bytes long, m) (ap IA.Integer (long_number s o n long)))
+        (λ short. let m : min n 64 ≡ n = omega arith in rw (content_number short, m))
 
--- ---- by what checking the bounds answered
-module _ (o n : ℕ) (s : List ℕ) {x : Outcome} (e : x ≡ first_of (bounds_checks (length s) o n)) where
-  module _ (r : Refusal) (d : x ≡ O.Refused r) where
-    pub no-field-integer : an_integer (to_integer integer_bits (buffer_field o n s)) ≡ refused r
-    no-field-integer = rw (integer-of-outside integer_bits o n s (content-refused integer_bits o n s e r d))
+  -- by what checking the bounds answered
+  module _ (l : length s ≤ 65536) where
+    pub checked_inside : first_of (bounds_checks (length s) o n) ≡ O.Done → o + n ≤ 8 * length s
+    checked_inside d =
+        lt_cases (8 * length s) (o + n) (o + n ≤ 8 * length s)
+        (λ h.
+        let z : ◌≡◌ {A = ℕ} 0 1 = cc (d, bounds_outside (length s) o n true l (sym (lt-ltb (8 * length s) (o + n) h)) refl) in
+        absurd (omega arith))
+        (λ h. h)
 
-    pub no-field-buffer : a_buffer (to_buffer integer_bits (buffer_field o n s)) ≡ refused r
-    no-field-buffer = rw (buffer-of-outside integer_bits o n s (content-refused integer_bits o n s e r d))
+    pub checked_refused : (r : Refusal) → first_of (bounds_checks (length s) o n) ≡ O.Refused r → buffer_field_content o n s ≡ refusal r
+    checked_refused r d =
+        lt_cases (8 * length s) (o + n) (buffer_field_content o n s ≡ refusal r)
+        (λ h.
+        let e : R.BufferFieldIndexesOutOfBounds ≡ r = cc (d, bounds_outside (length s) o n true l (sym (lt-ltb (8 * length s) (o + n) h)) refl) in
+        content_outside h ∙ ap refusal e)
+        (λ h.
+        let z : ◌≡◌ {A = ℕ} 0 1 = cc (d, bounds_done (length s) o n false l (sym (le-ltb (8 * length s) (o + n) h)) refl) in
+        absurd (omega arith))
 
-  module _ (d : x ≡ O.Done) where
-    pub short-content : n ≤ 64 → buffer_field_content 64 o n s ≡ given (short (get_bits s o n))
-    short-content h = content-given 64 o n s e d ∙ ap given (content-short 64 o n s h)
+-- ---- to buffer
 
-    pub long-content : 64 < n → buffer_field_content 64 o n s ≡ given (long (B.bytes (run_bits s o n) 0 (bytes_for n)))
-    long-content h = content-given 64 o n s e d ∙ ap given (content-long 64 o n s h)
+-- by what counting its bytes answered
+module _ (s : List ℕ) (o n : ℕ) (out : List ℕ) (a : LengthAnswer) (e : a ≡ length_of (content_buffer (buffer_field_content o n s))) where
+  pub counted_refused : (r : Refusal) → a ≡ LA.Refused r → given a out ≡ giving (content_buffer (buffer_field_content o n s)) out
+  counted_refused r d = ap (λ (x : LengthAnswer). given x out) d ∙ go (content_buffer (buffer_field_content o n s)) (sym e ∙ d)
+    where
+      go : (b : Bytes) → length_of b ≡ LA.Refused r → given (LA.Refused r) out ≡ giving b out
+      go (none q) p = ap (λ (x : LengthAnswer). given x out) (sym p) ∙ sym (giving_none q out)
+      go (these l) p = let z : ◌≡◌ {A = ℕ} 0 1 = cc p in absurd (omega arith)
 
-    pub field-integer : (g : ℕ) → g ≡ get_bits s o (min n 64) → an_integer (to_integer integer_bits (buffer_field o n s)) ≡ gives (number g)
-    field-integer g q =
-        lt_cases 64 n (an_integer (to_integer integer_bits (buffer_field o n s)) ≡ gives (number g))
-        (λ h. let m : min n 64 ≡ 64 = omega arith in rw (integer-of-long 64 o n s (long-content h), long-number s o n h, q, m))
-        (λ h. let m : min n 64 ≡ n = omega arith in rw (integer-of-short 64 o n s (short-content h), q, m))
+  module _ (m : ℕ) (d : a ≡ LA.Length m) where
+    these_bytes : content_buffer (buffer_field_content o n s) ≡ these (bytes (run_bits s o n) 0 (bytes_for n))
+    these_bytes =
+        lt_cases (8 * length s) (o + n) (content_buffer (buffer_field_content o n s) ≡ these (bytes (run_bits s o n) 0 (bytes_for n)))
+        (λ h. not_counted (content_outside o n s h))
+        (λ h.
+        lt_cases 64 n (content_buffer (buffer_field_content o n s) ≡ these (bytes (run_bits s o n) 0 (bytes_for n)))
+        (λ long. ap content_buffer (content_bytes o n s h long))
+        (λ short. not_number (content_number o n s h short)))
+      where
+        counted : length_of (content_buffer (buffer_field_content o n s)) ≡ LA.Length m
+        counted = sym e ∙ d
 
-    pub field-no-buffer : n ≤ 64 → a_buffer (to_buffer integer_bits (buffer_field o n s)) ≡ refused (no_conversion T.Integer T.Buffer)
-    field-no-buffer h = rw (buffer-of-short 64 o n s (short-content h))
+        not_counted : {r : Refusal} {A : Type 0} → buffer_field_content o n s ≡ refusal r → A
+        not_counted q = let z : ◌≡◌ {A = ℕ} 0 1 = cc (sym (ap (λ (c : Content). length_of (content_buffer c)) q) ∙ counted) in absurd (omega arith)
 
-    pub field-bytes : 64 < n → to_buffer integer_bits (buffer_field o n s) ≡ given (B.bytes (run_bits s o n) 0 (bytes_for n))
-    field-bytes h = buffer-of-long 64 o n s (long-content h)
+        not_number : {x : ℕ} {A : Type 0} → buffer_field_content o n s ≡ number x → A
+        not_number q = let z : ◌≡◌ {A = ℕ} 0 1 = cc (sym (ap (λ (c : Content). length_of (content_buffer c)) q) ∙ counted) in absurd (omega arith)
 
-    pub field_length : 64 < n → said (A.Buffer ((n - 1) / 8 + 1)) ≡ saying (a_buffer (to_buffer integer_bits (buffer_field o n s)))
-    field_length h =
-        let k : (n - 1) / 8 + 1 ≡ length (B.bytes (run_bits s o n) 0 (bytes_for n)) = omega (arith, bytes_length (run_bits s o n) 0 (bytes_for n)) in
-        rw k (says (ap a_buffer (field-bytes h)))
+    counted_length : m ≡ bytes_for n
+    counted_length =
+        let q : LA.Length m ≡ LA.Length (length (bytes (run_bits s o n) 0 (bytes_for n))) = sym d ∙ e ∙ ap length_of these_bytes in
+        let p : m ≡ length (bytes (run_bits s o n) 0 (bytes_for n)) = cc q in
+        p ∙ bytes_length (run_bits s o n) 0 (bytes_for n)
 
--- what counting the bytes found
-pub field_heard : (o n : ℕ) (s l : List ℕ) → to_buffer integer_bits (buffer_field o n s) ≡ given l → l ≡ B.bytes (run_bits s o n) 0 (bytes_for n)
-field_heard o n s l e = go (first_of (bounds_checks (length s) o n)) refl
-  where
-    go : (x : Outcome) → x ≡ first_of (bounds_checks (length s) o n) → l ≡ B.bytes (run_bits s o n) 0 (bytes_for n)
-    go (O.Refused r) d = cc (buffer-of-outside integer_bits o n s (content-refused integer_bits o n s d r refl))
-    go O.Done d =
-        lt_cases 64 n (l ≡ B.bytes (run_bits s o n) 0 (bytes_for n))
-        (λ h. cc (field-bytes o n s d refl h))
-        (λ h. cc (buffer-of-short 64 o n s (short-content o n s d refl h)))
+    pub counted_short : length out < m → given (LA.Refused R.OutputTooShort) out ≡ giving (content_buffer (buffer_field_content o n s)) out
+    counted_short h =
+        let w = counted_length in
+        let k = bytes_length (run_bits s o n) 0 (bytes_for n) in
+        rw these_bytes (sym (giving_short (bytes (run_bits s o n) 0 (bytes_for n)) out (omega arith)))
 
-pub field_given : (o n : ℕ) (s out : List ℕ) (a : Answer) → said a ≡ saying (a_buffer (to_buffer integer_bits (buffer_field o n s)))
-    → (k : ℕ) → a ≡ A.Buffer k → k ≤ length out → ((j : ℕ) → Fits w8 (get_or out j 0))
-    → (t : List ℕ) → t ≡ with_bits out 0 (8 * bytes_for n) (run_bits s o n)
-    → told (said (A.Buffer k)) t ≡ delivered (a_buffer (to_buffer integer_bits (buffer_field o n s))) out
-field_given o n s out a e k d room b t g =
-    hears_bytes k (to_buffer integer_bits (buffer_field o n s)) (rw d at e)
-    (λ l f size.
-    let p : l ≡ B.bytes (run_bits s o n) 0 (bytes_for n) = field_heard o n s l f in
-    let m : length l ≡ bytes_for n = ap length p ∙ bytes_length (run_bits s o n) 0 (bytes_for n) in
-    let q : t ≡ into l out = g ∙ bits_into out (bytes_for n) (run_bits s o n) (λ j. omega (arith, b j)) (omega arith) ∙ ap (λ (x : List ℕ). into x out) (sym p) in
-    rw (q, ← size) (delivers (bytes l) out (ap a_buffer f) (omega arith)))
+    pub counted_given : m ≤ length out → ((j : ℕ) → get_or out j 0 < 256) → (t : List ℕ) → t ≡ with_bits out 0 (8 * bytes_for n) (run_bits s o n)
+        → given (LA.Length m) t ≡ giving (content_buffer (buffer_field_content o n s)) out
+    counted_given h b t q =
+        let w = counted_length in
+        let k = bytes_length (run_bits s o n) 0 (bytes_for n) in
+        rw (these_bytes, giving_these (bytes (run_bits s o n) 0 (bytes_for n)) out (omega arith), q, bits_into out (bytes_for n) (run_bits s o n) b (omega arith))
+        (ap (λ (x : ℕ). given (LA.Length x) (into (bytes (run_bits s o n) 0 (bytes_for n)) out)) (w ∙ sym k))
 
--- ---- a field unit
+-- ---- a FieldUnit gives an Integer or its own refusal: neither a Buffer nor a String comes of it
+pub unit_no_buffer : (u : UnitRead) → content_buffer (unit_content u) ≡ none (unit_refusal (unit_content u) T.Buffer)
+unit_no_buffer (UR.Value v n) = refl
+unit_no_buffer (UR.Refused r) = refl
 
--- at 64 bits its content is a number, or it is refused
-pub unit_content : (f : FieldUnit) (s : List ℕ) {X : Type 0}
-    → ((n : ℕ) → field_unit_content integer_bits f s ≡ given (short n) → X) → ((r : Refusal) → field_unit_content integer_bits f s ≡ refused r → X) → X
-unit_content f s {X} g h = go (first_of (field_checks false f (length s))) refl
-  where
-    go : (x : Outcome) → first_of (field_checks false f (length s)) ≡ x → X
-    go O.Done e = g _ (unit-short f s e)
-    go (O.Refused r) e = h r (unit_refused integer_bits f s r e)
-
--- read for a type that no number converts to
-abbrev pub no_unit : FieldUnit → List ℕ → AmlType → Meaning
-no_unit f s wanted = field_unit_content integer_bits f s >>= λ _. refused (no_conversion T.Integer wanted)
-
-module _ (f : FieldUnit) (s : List ℕ) where
-  pub unit-number : an_integer (to_integer integer_bits (field_unit f s)) ≡ (field_unit_content integer_bits f s >>= as_given)
-  unfolding to_integer read integer_of
-  unit-number = unit_content f s (λ n d. rw d) (λ r d. rw d)
-
-  pub unit-buffer : a_buffer (to_buffer integer_bits (field_unit f s)) ≡ no_unit f s T.Buffer
-  unfolding to_buffer read buffer_of
-  unit-buffer = unit_content f s (λ n d. rw d) (λ r d. rw d)
-
-  pub unit-string : a_string (to_string integer_bits (field_unit f s)) ≡ no_unit f s T.String
-  unfolding to_string read_unit string_of
-  unit-string = unit_content f s (λ n d. rw d) (λ r d. rw d)
-
-module _ (v : AmlValue) (s : List ℕ) (l : length s ≤ most_bytes) (f : FieldUnit) (e : v ≡ Val.Field f) where
-  pub asBuffer-unit : as_buffer integer_bits v s ≡ no_unit f s T.Buffer
-  asBuffer-unit = asBuffer-short integer_bits v s l ∙ rw e (unit-buffer f s)
-
-  pub asString-unit : as_string integer_bits v s ≡ no_unit f s T.String
-  asString-unit = asString-short integer_bits v s l ∙ rw e (unit-string f s)
-
-  -- with an output, which stays
-  module _ {x : Said} {out : List ℕ} where
-    pub asBuffer-unit-out : x ≡ saying (no_unit f s T.Buffer) → told x out ≡ delivered (as_buffer integer_bits v s) out
-    asBuffer-unit-out d = hands-either (field_unit_content integer_bits f s) (no_conversion T.Integer T.Buffer) d asBuffer-unit
-
-    pub asString-unit-out : x ≡ saying (no_unit f s T.String) → told x out ≡ delivered (as_string integer_bits v s) out
-    asString-unit-out d = hands-either (field_unit_content integer_bits f s) (no_conversion T.Integer T.String) d asString-unit
-
--- what its call said
-counting_says : (k : ℕ) (m : Meaning) → (counting k m).says ≡ saying m
-unfolding counting saying
-counting_says k (given v) = refl
-counting_says k (refused r) = refl
-
-module _ (f : FieldUnit) (s : List ℕ) (a : Answer) (k : ℕ) (e : reported (said a) k ≡ read_field integer_bits f s) where
-  pub unit-says : said a ≡ saying (field_unit_content integer_bits f s >>= as_given)
-  unfolding read_field
-  unit-says = ap (λ (x : Reported). x.says) e ∙ counting_says _ (field_unit_content integer_bits f s >>= as_given)
-
-  -- where no number is wanted
-  pub unit-number-refused : (q : Refusal) (x : ℕ) → a ≡ A.Integer x → ◌≡◌ {A = Meaning} (field_unit_content integer_bits f s >>= λ _. refused q) (refused q)
-  unit-number-refused q x d = unit_content f s (λ n g. rw g) (λ r g. cc (d, heard a (refused r) (rw g at unit-says)))
-
-  -- an answer that is no number is the field's refusal, whatever stands behind
-  pub unit-refusal : (h : Content → Meaning) → OneOf not_integer (tag_of the_type a) → said a ≡ saying (field_unit_content integer_bits f s >>= h)
-  unit-refusal h t =
-      unit_content f s
-      (λ n g. absurd (miss not_integer 2 tt (rw (heard a (gives (number n)) (rw g at unit-says)) at t)))
-      (λ r g. rw g (rw g at unit-says))
+pub unit_no_string : (u : UnitRead) → content_string (unit_content u) ≡ none (unit_refusal (unit_content u) T.String)
+unit_no_string (UR.Value v n) = refl
+unit_no_string (UR.Refused r) = refl

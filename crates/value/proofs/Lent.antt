@@ -1,77 +1,96 @@
--- Each call asks 27 of the bytes that are lent first; of bytes that are not too many it is its rule.
+-- 27 comes first: of lent bytes that are too many nothing else is asked, and of all others a call is its conversion.
 -- Assumes nothing.
 use mathlib.Core.Path.{◌≡◌}
-use mathlib.Core.List.{List, []}
+use mathlib.Core.List.{List}
 use Prim.Native.Nat.{ℕ, ◌≤◌, ◌<◌}
 use lib.ListN.{length}
-use Rattle.types.specs.Limits.{most_bytes}
-use Rattle.types.specs.Answers.{refused, ◌>>=◌, truth, gives, an_integer, a_string, a_buffer}
-use Rattle.types.specs.Held.{held_by, unread}
+use borrow.Author.Tests.{lt-ltb, le-ltb}
+use Rattle.types.specs.Refusals.{first_of}
+use Rattle.types.specs.Values.{type_of}
+use Rattle.types.specs.declared.refusal.Refusal.{Refusal}
 use Rattle.types.specs.declared.refusal.Refusal.TheVariants as R
 use Rattle.types.specs.declared.value.AmlType.{AmlType}
 use Rattle.types.specs.declared.value.AmlValue.{AmlValue}
-use Rattle.types.proofs.Lent.{lent-long, lent_one}
-use Rattle.value.specs.Conversions.{to_integer, to_bool, to_buffer, to_string, to_type}
-use Rattle.value.specs.ToInteger.{parsed}
-use Rattle.value.specs.Status.{to_status}
-use Rattle.value.specs.Calls.{as_integer, as_bool, as_buffer, as_string, as_type, def_to_integer, as_status}
+use mathlib.Core.Bool.{cond}
+use Rattle.value.specs.Conversions.{held_by, lent, to_integer, as_integer, to_bool, as_bool, to_buffer, as_buffer, to_string, as_string, given, giving, given_type, to_type, same_type, as_type}
+use Rattle.value.specs.Integers.{parsed, def_to_integer}
+use Rattle.value.specs.Status.{to_status, as_status}
+use Rattle.value.specs.declared.convert.IntegerAnswer.TheVariants as IA
+use Rattle.value.specs.declared.convert.BoolAnswer.TheVariants as BA
+use Rattle.value.specs.declared.convert.LengthAnswer.TheVariants as LA
+use Rattle.value.specs.declared.convert.TypeAnswer.TheVariants as TA
+use Rattle.value.specs.declared.status.StatusAnswer.TheVariants as SA
 
--- ---- more than 65,536 bytes
-module _ (w : ℕ) (v : AmlValue) (s : List ℕ) (l : most_bytes < length s) where
-  pub asInteger-long : as_integer w v s ≡ refused R.TooManyBytes
+module _ {A : Type 0} (s : List ℕ) (a : A) (f : Refusal → A) where
+  pub lent_long : 65536 < length s → lent s a f ≡ f R.TooManyBytes
+  unfolding first_of
+  lent_long l = rw (lt-ltb 65536 (length s) l)
+
+  pub lent_short : length s ≤ 65536 → lent s a f ≡ a
+  unfolding first_of
+  lent_short l = rw (le-ltb 65536 (length s) l)
+
+-- ---- too many bytes
+module _ (v : AmlValue) (s : List ℕ) (l : 65536 < length s) where
+  pub as_integer_long : as_integer v s ≡ IA.Refused R.TooManyBytes
   unfolding as_integer
-  asInteger-long = lent-long s [] _ l
+  as_integer_long = lent_long s (to_integer (held_by v s)) IA.Refused l
 
-  pub asBool-long : as_bool w v s ≡ refused R.TooManyBytes
+  pub as_bool_long : as_bool v s ≡ BA.Refused R.TooManyBytes
   unfolding as_bool
-  asBool-long = lent-long s [] _ l
+  as_bool_long = lent_long s (to_bool (held_by v s)) BA.Refused l
 
-  pub asBuffer-long : as_buffer w v s ≡ refused R.TooManyBytes
+  pub as_buffer_long : (out : List ℕ) → as_buffer v s out ≡ given (LA.Refused R.TooManyBytes) out
   unfolding as_buffer
-  asBuffer-long = lent-long s [] _ l
+  as_buffer_long out = lent_long s (giving (to_buffer (held_by v s)) out) (λ r. given (LA.Refused r) out) l
 
-  pub asString-long : as_string w v s ≡ refused R.TooManyBytes
+  pub as_string_long : (out : List ℕ) → as_string v s out ≡ given (LA.Refused R.TooManyBytes) out
   unfolding as_string
-  asString-long = lent-long s [] _ l
+  as_string_long out = lent_long s (giving (to_string (held_by v s)) out) (λ r. given (LA.Refused r) out) l
 
-  pub asType-long : (wanted : AmlType) → as_type w v s wanted ≡ refused R.TooManyBytes
+  pub as_type_long : (wanted : AmlType) (out : List ℕ) → as_type v s wanted out ≡ given_type (TA.Refused R.TooManyBytes) out
   unfolding as_type
-  asType-long wanted = lent-long s [] _ l
+  as_type_long wanted out =
+      lent_long s (cond (same_type (type_of v) wanted) (given_type TA.Same out) (to_type (type_of v) wanted (held_by v s) out))
+      (λ r. given_type (TA.Refused r) out) l
 
-  pub defToInteger-long : def_to_integer w v s ≡ refused R.TooManyBytes
+  pub def_to_integer_long : def_to_integer v s ≡ IA.Refused R.TooManyBytes
   unfolding def_to_integer
-  defToInteger-long = lent-long s [] _ l
+  def_to_integer_long = lent_long s (parsed (held_by v s)) IA.Refused l
 
-  pub asStatus-long : as_status w v s ≡ refused R.TooManyBytes
+  pub as_status_long : as_status v s ≡ SA.Refused R.TooManyBytes
   unfolding as_status
-  asStatus-long = lent-long s [] _ l
+  as_status_long = lent_long s (to_status (held_by v s)) SA.Refused l
 
 -- ---- no more than that
-module _ (w : ℕ) (v : AmlValue) (s : List ℕ) (l : length s ≤ most_bytes) where
-  pub asInteger-short : as_integer w v s ≡ an_integer (to_integer w (held_by w v s))
+module _ (v : AmlValue) (s : List ℕ) (l : length s ≤ 65536) where
+  pub as_integer_short : as_integer v s ≡ to_integer (held_by v s)
   unfolding as_integer
-  asInteger-short = lent_one s _ l
+  as_integer_short = lent_short s (to_integer (held_by v s)) IA.Refused l
 
-  pub asBool-short : as_bool w v s ≡ (to_bool (held_by w v s) >>= λ b. gives (truth b))
+  pub as_bool_short : as_bool v s ≡ to_bool (held_by v s)
   unfolding as_bool
-  asBool-short = lent_one s _ l
+  as_bool_short = lent_short s (to_bool (held_by v s)) BA.Refused l
 
-  pub asBuffer-short : as_buffer w v s ≡ a_buffer (to_buffer w (held_by w v s))
+  pub as_buffer_short : (out : List ℕ) → as_buffer v s out ≡ giving (to_buffer (held_by v s)) out
   unfolding as_buffer
-  asBuffer-short = lent_one s _ l
+  as_buffer_short out = lent_short s (giving (to_buffer (held_by v s)) out) (λ r. given (LA.Refused r) out) l
 
-  pub asString-short : as_string w v s ≡ a_string (to_string w (held_by w v s))
+  pub as_string_short : (out : List ℕ) → as_string v s out ≡ giving (to_string (held_by v s)) out
   unfolding as_string
-  asString-short = lent_one s _ l
+  as_string_short out = lent_short s (giving (to_string (held_by v s)) out) (λ r. given (LA.Refused r) out) l
 
-  pub asType-short : (wanted : AmlType) → as_type w v s wanted ≡ to_type w (held_by w v s) wanted
+  pub as_type_short : (wanted : AmlType) (out : List ℕ)
+      → as_type v s wanted out ≡ cond (same_type (type_of v) wanted) (given_type TA.Same out) (to_type (type_of v) wanted (held_by v s) out)
   unfolding as_type
-  asType-short wanted = lent_one s _ l
+  as_type_short wanted out =
+      lent_short s (cond (same_type (type_of v) wanted) (given_type TA.Same out) (to_type (type_of v) wanted (held_by v s) out))
+      (λ r. given_type (TA.Refused r) out) l
 
-  pub defToInteger-short : def_to_integer w v s ≡ an_integer (parsed w (unread (held_by w v s)))
+  pub def_to_integer_short : def_to_integer v s ≡ parsed (held_by v s)
   unfolding def_to_integer
-  defToInteger-short = lent_one s _ l
+  def_to_integer_short = lent_short s (parsed (held_by v s)) IA.Refused l
 
-  pub asStatus-short : as_status w v s ≡ to_status (unread (held_by w v s))
+  pub as_status_short : as_status v s ≡ to_status (held_by v s)
   unfolding as_status
-  asStatus-short = lent_one s _ l
+  as_status_short = lent_short s (to_status (held_by v s)) SA.Refused l

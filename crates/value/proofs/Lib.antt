@@ -1,8 +1,9 @@
 pub mod Lent
-pub mod Answering
 pub mod ByKind
+pub mod Giving
 pub mod Fields
 pub mod Named
 pub mod Texts
 pub mod Statuses
 pub mod Writes
+pub mod Lengths

@@ -1,43 +1,24 @@
--- A text is read as hex digits where it begins with 0x, and as decimal digits otherwise.
+-- A text is read as hex digits where it begins with 0x, and as decimal digits where it is shorter or one of the two characters differs.
 -- Assumes nothing.
-use mathlib.Core.Path.{◌≡◌, sym, ap, ◌∙◌}
-use mathlib.Core.Bool.{Bool, true, false}
-use mathlib.Core.List.{List, [], ◌∷◌}
-use Prim.Native.Nat.{ℕ, ◌-◌, ◌≤◌}
-use native.Mathlib.Omega.{arith}
-use lib.ListN.{length, take, drop, length-drop}
-use lib.Seq.{take_all}
-use Rattle.text.specs.Lines.{begins}
-use Rattle.text.specs.Quoted.{ascii}
+use mathlib.Core.Path.{◌≡◌}
+use mathlib.Core.List.{List}
+use Prim.Native.Nat.{ℕ, ◌≤◌, ◌<◌}
+use lib.ListN.{length, get_or, drop}
+use borrow.Author.Tests.{le-leb, lt-leb, eq-eqb, ne_eqb}
 use Rattle.text.specs.Texts.{number_of}
-use Rattle.text.proofs.FirstLines.{begins_length}
-use Rattle.text.specs.declared.Number.{Number}
-use Rattle.text.specs.declared.Number.TheVariants as N
-use Rattle.types.specs.Answers.{refused, number, gives, an_integer}
-use Rattle.types.specs.declared.value.AmlType.TheVariants as T
-use Rattle.value.specs.Conversions.{no_conversion}
-use Rattle.value.specs.ToInteger.{text_number, text_said}
+use Rattle.value.specs.Integers.{text_number}
 
--- `0x`, as bytes
-abbrev zero_x : List ℕ
-zero_x = 48 ∷ 120 ∷ []
+module _ (s : List ℕ) where
+  pub short_text : length s < 2 → text_number s ≡ number_of 10 s
+  short_text h = rw (lt-leb 2 (length s) h)
 
-module _ (w : ℕ) (s : List ℕ) (b : Bool) (e : b ≡ begins zero_x s) where
-  pub hex-room : b ≡ true → 2 ≤ length s
-  hex-room t = begins_length zero_x s (sym e ∙ t)
+  module _ (h : 2 ≤ length s) where
+    pub no_zero : (get_or s 0 0 ≡ 48 → ⊥) → text_number s ≡ number_of 10 s
+    no_zero z = rw (le-leb 2 (length s) h, ne_eqb (get_or s 0 0) 48 z)
 
-  pub hex-text : b ≡ true → (r : Number) → r ≡ number_of w 16 (take (length s - 2) (drop 2 s)) → r ≡ text_number w s
-  unfolding ascii
-  hex-text t r d = rw (← e, t) (d ∙ ap (number_of w 16) (take_all (length s - 2) (drop 2 s) (omega (arith, length-drop 2 s))))
+    module _ (z : get_or s 0 0 ≡ 48) where
+      pub no_x : (get_or s 1 0 ≡ 120 → ⊥) → text_number s ≡ number_of 10 s
+      no_x x = rw (le-leb 2 (length s) h, eq-eqb (get_or s 0 0) 48 z, ne_eqb (get_or s 1 0) 120 x)
 
-  pub decimal-text : b ≡ false → (r : Number) → r ≡ number_of w 10 s → r ≡ text_number w s
-  unfolding ascii
-  decimal-text f r d = rw (← e, f) d
-
--- what the text said
-module _ (w : ℕ) (s : List ℕ) (x : Number) (e : x ≡ text_number w s) where
-  pub text-number : (n : ℕ) → x ≡ N.Is n → an_integer (text_said s (text_number w s)) ≡ gives (number n)
-  text-number n d = rw (← e, d)
-
-  pub text-bad : x ≡ N.Bad → an_integer (text_said s (text_number w s)) ≡ refused (no_conversion T.String T.Integer)
-  text-bad d = rw (← e, d)
+      pub hex_text : get_or s 1 0 ≡ 120 → text_number s ≡ number_of 16 (drop 2 s)
+      hex_text x = rw (le-leb 2 (length s) h, eq-eqb (get_or s 0 0) 48 z, eq-eqb (get_or s 1 0) 120 x)

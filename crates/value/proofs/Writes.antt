@@ -1,71 +1,84 @@
--- A value written to a field unit: 27 of its bytes, then the field's own checks, then the conversion. Where the conversion gives a number, the
--- write is that of the number, whose checks are the same.
+-- A value written to a field unit: 27 of the region is among the field's own checks, so these and 27 of the bytes are all that is asked before
+-- the value is converted.
 -- Assumes nothing.
-use mathlib.Core.Path.{◌≡◌, refl, sym, ap, ◌∙◌}
-use mathlib.Core.Bool.{true}
-use mathlib.Core.List.{List, []}
+use mathlib.Core.Path.{◌≡◌, refl, ap, ◌∙◌}
+use mathlib.Core.Bool.{Bool, true, false, ◌||◌}
+use mathlib.Core.List.{List}
 use Prim.Native.Nat.{ℕ, ◌≤◌, ◌<◌}
+use native.Mathlib.Omega.{arith}
+use lib.Dec.{ltb}
 use lib.ListN.{length}
-use denote.Enum.Declared.{tag_of}
-use types.Run.{OneOf}
-use Rattle.types.specs.Limits.{most_bytes}
-use Rattle.types.specs.Refusals.{Checks, first_of, judged}
-use Rattle.types.specs.Answers.{Answered, given, refused, ◌>>=◌, passing, an_integer, said, saying, Reported, reported}
-use Rattle.types.specs.Held.{held_by}
-use Rattle.types.specs.declared.answer.Answer.{Answer}
-use Rattle.types.specs.declared.answer.Answer.TheVariants as A
+use borrow.Author.Tests.{lt-ltb, le-ltb}
+use Rattle.bits.proofs.Laws.{lt_cases}
+use Rattle.types.specs.Refusals.{first_of, judged}
 use Rattle.types.specs.declared.refusal.Refusal.{Refusal}
 use Rattle.types.specs.declared.refusal.Refusal.TheVariants as R
-use Rattle.types.specs.declared.refusal.Outcome.{Outcome}
 use Rattle.types.specs.declared.refusal.Outcome.TheVariants as O
 use Rattle.types.specs.declared.value.AmlValue.{AmlValue}
 use Rattle.types.specs.declared.value.FieldUnit.{FieldUnit}
-use Rattle.types.specs.contracts.answer.Answer.{the_type}
-use Rattle.types.proofs.Lent.{lent-long, lent_one}
-use Rattle.types.proofs.Saying.{hears_number, not_integer, no_number}
 use Rattle.field_unit.specs.Checks.{field_checks}
-use Rattle.field_unit.specs.Accesses.{Plan}
-use Rattle.field_unit.specs.Calls.{plan_with, Stored, stored, storing, write_field}
-use Rattle.value.specs.Conversions.{to_integer}
-use Rattle.value.specs.Calls.{as_integer}
-use Rattle.value.specs.FieldWrites.{taken, write_value}
-use Rattle.value.proofs.Lent.{asInteger-short}
+use Rattle.field_unit.specs.Calls.{Wrote, wrote, write_field}
+use Rattle.field_unit.specs.declared.whole.UnitWritten.TheVariants as UW
+use Rattle.value.specs.Conversions.{held_by, to_integer}
+use Rattle.value.specs.FieldWrites.{write_integer, write_value}
+use Rattle.value.specs.declared.convert.IntegerAnswer.TheVariants as IA
 
--- the refusal of a list of checks goes before another answer
-module _ (cs : Checks) (a : Answer) {x : Outcome} (e : x ≡ first_of cs) where
-  pub goes_first : (r : Refusal) → x ≡ O.Refused r → A.Refused r ≡ judged (first_of cs) a A.Refused
-  goes_first r d = rw (← e, d)
+-- 27 is the first of a field's checks
+pub region_long : (write : Bool) (f : FieldUnit) (size : ℕ) → 65536 < size → first_of (field_checks write f size) ≡ O.Refused R.TooManyBytes
+unfolding first_of field_checks
+region_long write f size l = rw (lt-ltb 65536 size l)
 
-  pub none_first : x ≡ O.Done → a ≡ judged (first_of cs) a A.Refused
-  none_first d = rw (← e, d)
+-- so the region of an accepted field is short enough
+pub region_short : (write : Bool) (f : FieldUnit) (size : ℕ) → first_of (field_checks write f size) ≡ O.Done → size ≤ 65536
+region_short write f size d =
+    lt_cases 65536 size (size ≤ 65536)
+    (λ l. let z : ◌≡◌ {A = ℕ} 0 1 = cc (d, region_long write f size l) in absurd (omega arith))
+    (λ l. l)
 
-module _ (w : ℕ) (f : FieldUnit) (v : AmlValue) (t s : List ℕ) where
-  pub write-too-long : (y : Reported) → most_bytes < length t → y ≡ reported (said (A.Refused R.TooManyBytes)) 0 → stored y s ≡ write_value w f v t s
-  unfolding said write_value storing
-  write-too-long y l e = rw e (sym (ap (λ (m : Answered Plan). storing m s) (lent-long t [] _ l)))
+or_true : (b : Bool) → (b || true) ≡ true
+or_true true = refl
+or_true false = refl
 
-  module _ (l : length t ≤ most_bytes) where
-    -- the lines behind 27
-    write_short : write_value w f v t s
-        ≡ storing (passing (field_checks true f (length s)) >>= λ _. taken w (held_by w v t) >>= λ x. given (plan_with true f x)) s
-    unfolding write_value
-    write_short = ap (λ (m : Answered Plan). storing m s) (lent_one t _ l)
+module _ (s : List ℕ) (f : FieldUnit) (v : AmlValue) (bytes : List ℕ) where
+  pub write_bytes_long : 65536 < length bytes → write_value s f v bytes ≡ wrote (UW.Refused R.TooManyBytes) s
+  unfolding write_value first_of
+  write_bytes_long l = rw (lt-ltb 65536 (length bytes) l, or_true (ltb 65536 (length s)))
 
-    module _ (a : Answer) (e : said a ≡ saying (as_integer w v t)) where
-      -- what the conversion said
-      converts : said a ≡ saying (an_integer (to_integer w (held_by w v t)))
-      converts = e ∙ ap saying (asInteger-short w v t l)
+  region_too_long : 65536 < length s → write_value s f v bytes ≡ wrote (UW.Refused R.TooManyBytes) s
+  unfolding write_value first_of
+  region_too_long h = rw (lt-ltb 65536 (length s) h)
 
-      pub write-number : (n : ℕ) (x : Stored) → a ≡ A.Integer n → x ≡ write_field f n s → x ≡ write_value w f v t s
-      unfolding write_field taken
-      write-number n x d q = q ∙ sym (write_short ∙ rw (hears_number n (to_integer w (held_by w v t)) (rw d at converts)))
+  -- the field's checks, then the conversion, then the write
+  abbrev pub judged_write : Wrote
+  judged_write = judged (first_of (field_checks true f (length s))) (write_integer s f (to_integer (held_by v bytes))) (λ r. wrote (UW.Refused r) s)
 
-      pub write-refused : (b : Answer) (y : Reported) → OneOf not_integer (tag_of the_type a) → b ≡ judged (first_of (field_checks true f (length s))) a A.Refused
-          → y ≡ reported (said b) 0 → stored y s ≡ write_value w f v t s
-      unfolding said taken passing storing
-      write-refused b y k d q = no_number a (to_integer w (held_by w v t)) converts k (λ r p c. go (first_of (field_checks true f (length s))) refl r p c)
-        where
-          go : (x : Outcome) → first_of (field_checks true f (length s)) ≡ x → (r : Refusal) → a ≡ A.Refused r → to_integer w (held_by w v t) ≡ refused r
-              → stored y s ≡ write_value w f v t s
-          go O.Done i r p c = rw (q, d, i, p) (sym (write_short ∙ rw (i, c)))
-          go (O.Refused z) i r p c = rw (q, d, i) (sym (write_short ∙ rw i))
+  both_short : length bytes ≤ 65536 → length s ≤ 65536 → write_value s f v bytes ≡ judged_write
+  unfolding write_value first_of
+  both_short l h = rw (le-ltb 65536 (length s) h, le-ltb 65536 (length bytes) l)
+
+  module _ (l : length bytes ≤ 65536) where
+    pub write_judged : write_value s f v bytes ≡ judged_write
+    write_judged =
+        lt_cases 65536 (length s) (write_value s f v bytes ≡ judged_write)
+        (λ h. rw (region_long true f (length s) h) (region_too_long h))
+        (both_short l)
+
+    pub write_refused : (r : Refusal) → first_of (field_checks true f (length s)) ≡ O.Refused r → write_value s f v bytes ≡ wrote (UW.Refused r) s
+    write_refused r d = rw (write_judged, d)
+
+    module _ (d : first_of (field_checks true f (length s)) ≡ O.Done) where
+      pub write_unconverted : (r : Refusal) → to_integer (held_by v bytes) ≡ IA.Refused r → write_value s f v bytes ≡ wrote (UW.Refused r) s
+      write_unconverted r e = rw (write_judged, d, e)
+
+      pub write_number : (n : ℕ) → to_integer (held_by v bytes) ≡ IA.Integer n → write_value s f v bytes ≡ write_field s f n
+      write_number n e = rw (write_judged, d, e)
+
+-- a value whose bytes are the region itself: 27 of them is among the field's checks too
+pub write_refused_self : (s : List ℕ) (f : FieldUnit) (v : AmlValue) (r : Refusal)
+    → first_of (field_checks true f (length s)) ≡ O.Refused r → write_value s f v s ≡ wrote (UW.Refused r) s
+write_refused_self s f v r d =
+    lt_cases 65536 (length s) (write_value s f v s ≡ wrote (UW.Refused r) s)
+    (λ h.
+    let e : R.TooManyBytes ≡ r = cc (d, region_long true f (length s) h) in
+    write_bytes_long s f v s h ∙ ap (λ (x : Refusal). wrote (UW.Refused x) s) e)
+    (λ h. write_refused s f v s h r d)

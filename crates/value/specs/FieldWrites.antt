@@ -1,27 +1,31 @@
--- Document 01, "Field units": "A write first converts its value to integer, cuts it to the length". Order: "27 first", "9, 28, 29, 21, 22, then
--- what converting the value refuses".
+-- Document 01, "Field units": "A write first converts its value to integer". Order: "9, 28, 29, 21, 22, then what converting the value refuses".
 -- Assumes nothing.
-use Rattle.std.specs.Prelude.{ℕ, true, List, [], ◌∷◌, length}
-use Rattle.bits.specs.Bits.{bit_of}
-use Rattle.types.specs.Answers.{Answered, given, ◌>>=◌, passing, lent}
-use Rattle.types.specs.Held.{Held, held_by}
+use Rattle.std.specs.Prelude.{ℕ, ◌||◌, List, [], ◌∷◌, length}
+use Rattle.types.specs.Refusals.{first_of, judged}
+use Rattle.types.specs.declared.refusal.Refusal.TheVariants as R
 use Rattle.types.specs.declared.value.AmlValue.{AmlValue}
 use Rattle.types.specs.declared.value.FieldUnit.{FieldUnit}
-use Rattle.field_unit.specs.Checks.{field_checks}
-use Rattle.field_unit.specs.Calls.{plan_with, Stored, storing}
-use Rattle.value.specs.Conversions.{to_integer}
+use Rattle.buffer_field.specs.BufferFields.{too_long}
+use Rattle.field_unit.specs.Calls.{checked, writing, write_field, Wrote, wrote}
+use Rattle.field_unit.specs.declared.whole.UnitWritten.{UnitWritten}
+use Rattle.field_unit.specs.declared.whole.UnitWritten.TheVariants as UW
+use Rattle.value.specs.Conversions.{held_by, to_integer}
+use Rattle.value.specs.declared.convert.IntegerAnswer.{IntegerAnswer}
+use Rattle.value.specs.declared.convert.IntegerAnswer.TheVariants as IA
 
--- the bits that a field unit takes of a value
-unfoldable pub taken : ℕ → Held → Answered (ℕ → ℕ)
-taken w h = to_integer w h >>= λ n. given (bit_of n)
+-- what converting refused, as the answer of a write; a number is no refusal, and no access is made for it
+abbrev pub conversion_refused : IntegerAnswer → UnitWritten
+conversion_refused (IA.Integer n) = UW.Count 0
+conversion_refused (IA.Refused r) = UW.Refused r
 
--- a value with its bytes t, written to the field f of the region s
-unfoldable pub write_value : ℕ → FieldUnit → AmlValue → List ℕ → List ℕ → Stored
-write_value w f v t s =
-    storing
-    (do
-      _ ← lent (t ∷ [])
-      _ ← passing (field_checks true f (length s))
-      x ← taken w (held_by w v t)
-      given (plan_with true f x))
-    s
+-- of a number, or of what converting refused
+abbrev pub write_integer : List ℕ → FieldUnit → IntegerAnswer → Wrote
+write_integer s f (IA.Integer n) = write_field s f n
+write_integer s f (IA.Refused r) = wrote (UW.Refused r) s
+
+-- a value and its bytes, written to the field f of the region s
+unfoldable pub write_value : List ℕ → FieldUnit → AmlValue → List ℕ → Wrote
+write_value s f v bytes =
+    judged (first_of ((too_long s || too_long bytes, R.TooManyBytes) ∷ []))
+    (judged (checked (writing f 0) (length s)) (write_integer s f (to_integer (held_by v bytes))) (λ r. wrote (UW.Refused r) s))
+    (λ r. wrote (UW.Refused r) s)

@@ -1,5 +1,5 @@
 pub mod Conversions
-pub mod ToInteger
+pub mod Integers
 pub mod Status
-pub mod Calls
 pub mod FieldWrites
+pub mod Lengths

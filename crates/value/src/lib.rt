@@ -2,5 +2,5 @@
 // a FieldUnit's region. No public function has a `requires`: every argument is checked, and a refusal changes no byte.
 pub mod convert; // to integer, bool, buffer, string, a named type
 pub mod field; // writing any value to a field unit
+pub mod integer; // ToInteger
 pub mod status; // the value of _STA
-pub mod to_integer; // ToInteger

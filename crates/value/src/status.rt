@@ -1,29 +1,39 @@
 // The value of a _STA method.
 ghost use Rattle.std.specs.Prelude.{◌≡◌};
-ghost use Rattle.bits.specs.Integers.{integer_bits};
-ghost use Rattle.types.specs.Answers.{said, saying};
-ghost use Rattle.value.specs.Status.{default_status};
-ghost use Rattle.value.specs.Calls.{as_status};
+ghost use Rattle.value.specs.Status.{as_status, default_status};
 
-use types::answer::{Answer, StatusObject};
-use types::limit::MOST_BYTES;
 use types::refusal::Refusal;
 use types::value::AmlValue;
 
+#[derive(Drop)]
+pub struct StatusObject {
+    pub present: bool,
+    pub enabled: bool,
+    pub show_in_ui: bool,
+    pub functional: bool,
+    pub battery_present: bool,
+}
+
+#[derive(Drop)]
+pub enum StatusAnswer {
+    Status(StatusObject),
+    Refused(Refusal),
+}
+
 // Bits 0 to 4 of an Integer.
-pub fn as_status(value: AmlValue, bytes: &[u8]) -> Answer
-    ensures { said result ≡ saying (as_status integer_bits value bytes.now) }
+pub fn as_status(value: AmlValue, bytes: &[u8]) -> StatusAnswer
+    ensures { result ≡ as_status value bytes.now }
 {
-    if MOST_BYTES < bytes.len() {
-        return Answer::Refused(Refusal::TooManyBytes);
+    if 65536 < bytes.len() {
+        return StatusAnswer::Refused(Refusal::TooManyBytes);
     }
     let AmlValue::Integer(n) = value else {
-        return Answer::Refused(Refusal::InvalidStatusObject);
+        return StatusAnswer::Refused(Refusal::InvalidStatusObject);
     };
     if 32 <= n {
-        return Answer::Refused(Refusal::InvalidStatusObject);
+        return StatusAnswer::Refused(Refusal::InvalidStatusObject);
     }
-    Answer::Status(StatusObject {
+    StatusAnswer::Status(StatusObject {
         present: n % 2 == 1,
         enabled: n / 2 % 2 == 1,
         show_in_ui: n / 4 % 2 == 1,

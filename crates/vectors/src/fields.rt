@@ -1,8 +1,10 @@
 // Calls on field units, buffer fields, flags and types, and what they answered.
 use crate::lines::{put_byte, put_word, word};
 use crate::{job, told};
+use buffer_field::FieldRead;
 use field_unit::access::FieldOp;
-use field_unit::next::{Accessed, CountAnswer, next_access};
+use field_unit::next::{Accessed, next_access};
+use field_unit::whole::{UnitRead, UnitWritten};
 use types::flags::{
     AccessTypeAnswer, FieldAccessType, FieldFlags, FieldUpdateRule, UpdateRuleAnswer,
 };
@@ -38,8 +40,8 @@ fn check_and_count(op: FieldOp, size: u64, text: &mut [u8; 232]) {
     let checked = field_unit::check::check_field(op.field, op.write, size);
     put_byte(text, told::CHECK_STATUS, told::status_of(checked));
     match field_unit::next::count_accesses(op, size) {
-        CountAnswer::Count(n) => put_word(text, told::COUNTED, n),
-        CountAnswer::Refused(r) => put_byte(text, told::COUNT_STATUS, number(r)),
+        UnitWritten::Count(n) => put_word(text, told::COUNTED, n),
+        UnitWritten::Refused(r) => put_byte(text, told::COUNT_STATUS, number(r)),
     }
 }
 
@@ -60,14 +62,17 @@ fn whole_call(op: FieldOp, region: &mut [u8], text: &mut [u8; 232]) {
 }
 
 fn whole_read(op: FieldOp, region: &[u8], text: &mut [u8; 232]) {
-    told::counted(field_unit::whole::read_field(region, op.field), text);
+    match field_unit::whole::read_field(region, op.field) {
+        UnitRead::Value { value, count } => told::result(1, value, count, text),
+        UnitRead::Refused(r) => told::refused(r, text),
+    }
 }
 
 fn whole_write(op: FieldOp, region: &mut [u8], text: &mut [u8; 232]) {
-    told::counted(
-        field_unit::whole::write_field(region, op.field, op.value),
-        text,
-    );
+    match field_unit::whole::write_field(region, op.field, op.value) {
+        UnitWritten::Count(n) => told::result(0, 0, n, text),
+        UnitWritten::Refused(r) => told::refused(r, text),
+    }
 }
 
 // Where an operation stands after some of its accesses: how many were made, what is held, the refusal's number, and
@@ -138,20 +143,21 @@ fn one_access(line: &[u8; 496], region: &mut [u8], text: &mut [u8; 232]) {
 }
 
 fn field_read(line: &[u8; 496], buffer: &[u8], out: &mut [u8], text: &mut [u8; 232]) {
-    told::answer(
-        buffer_field::read_buffer_field(
-            buffer,
-            job::offset_of(line, job::FIRST),
-            job::length_of(line, job::FIRST),
-            out,
-        ),
-        text,
-    );
+    match buffer_field::read_buffer_field(
+        buffer,
+        job::offset_of(line, job::FIRST),
+        job::length_of(line, job::FIRST),
+        out,
+    ) {
+        FieldRead::Integer(x) => told::result(1, x, 0, text),
+        FieldRead::Buffer(n) => told::result(2, 0, n as u64, text),
+        FieldRead::Refused(r) => told::refused(r, text),
+    }
 }
 
 fn field_write(line: &[u8; 496], buffer: &mut [u8], bytes: &[u8], text: &mut [u8; 232]) {
     let value = job::value_of(line, job::SECOND);
-    told::answer(
+    told::outcome(
         buffer_field::write_buffer_field(
             buffer,
             job::offset_of(line, job::FIRST),
@@ -164,7 +170,7 @@ fn field_write(line: &[u8; 496], buffer: &mut [u8], bytes: &[u8], text: &mut [u8
 }
 
 fn field_write_self(line: &[u8; 496], buffer: &mut [u8], text: &mut [u8; 232]) {
-    told::answer(
+    told::outcome(
         buffer_field::write_buffer_field_self(
             buffer,
             job::offset_of(line, job::FIRST),

@@ -1,7 +1,6 @@
 // The columns of an answer: what the call gave; the same step by step; the check and the count alone.
 use crate::lines::{put_byte, put_word};
-use types::answer::{Answer, Counted, StatusObject};
-use types::refusal::{CarriedTypes, Outcome, Refusal, number, types_of};
+use types::refusal::{Outcome, Refusal, Types, number, types_of};
 use types::value::type_number;
 
 pub const STATUS: usize = 0; // 0, or the refusal's number
@@ -62,12 +61,18 @@ pub(crate) fn status_of(o: Outcome) -> u8 {
 pub(crate) fn refused(r: Refusal, text: &mut [u8; 232]) {
     put_byte(text, STATUS, number(r));
     match types_of(r) {
-        CarriedTypes::Nothing => {}
-        CarriedTypes::Met(t) => put_byte(text, PRESENT, type_number(t)),
-        CarriedTypes::Conversion { current, target } => {
+        Types::Nothing => {}
+        Types::Met(t) => put_byte(text, PRESENT, type_number(t)),
+        Types::Conversion { current, target } => {
             put_byte(text, PRESENT, type_number(current));
             put_byte(text, WANTED, type_number(target));
         }
+    }
+}
+
+pub(crate) fn outcome(o: Outcome, text: &mut [u8; 232]) {
+    if let Outcome::Refused(r) = o {
+        refused(r, text);
     }
 }
 
@@ -75,40 +80,4 @@ pub(crate) fn result(kind: u8, value: u64, count: u64, text: &mut [u8; 232]) {
     put_byte(text, RESULT, kind);
     put_word(text, VALUE, value);
     put_word(text, COUNT, count);
-}
-
-fn bit(b: bool, weight: u64) -> u64 {
-    if b { weight } else { 0 }
-}
-
-pub(crate) fn status_bits(s: StatusObject) -> u64 {
-    bit(s.present, 1)
-        | bit(s.enabled, 2)
-        | bit(s.show_in_ui, 4)
-        | bit(s.functional, 8)
-        | bit(s.battery_present, 16)
-}
-
-// What a call gave, or why it was refused.
-pub(crate) fn answer(a: Answer, text: &mut [u8; 232]) {
-    match a {
-        Answer::Done => {}
-        Answer::Boolean(b) => result(6, bit(b, 1), 0, text),
-        Answer::Integer(x) => result(1, x, 0, text),
-        Answer::String(n) => result(5, 0, n as u64, text),
-        Answer::Buffer(n) => result(2, 0, n as u64, text),
-        Answer::Itself => result(8, 0, 0, text),
-        Answer::Less => result(9, 0, 0, text),
-        Answer::Equal => result(9, 1, 0, text),
-        Answer::Greater => result(9, 2, 0, text),
-        Answer::Status(s) => result(7, status_bits(s), 0, text),
-        Answer::Refused(r) => refused(r, text),
-    }
-}
-
-// The same with the number of accesses.
-pub(crate) fn counted(c: Counted, text: &mut [u8; 232]) {
-    let a = c.answer;
-    answer(a, text);
-    put_word(text, COUNT, c.count);
 }

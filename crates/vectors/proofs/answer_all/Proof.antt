@@ -10,24 +10,69 @@ invariant-loop first₀ second₀ third₀ out₀ left₀ first second third out
 abbrev decreases-loop : tie.decreases-loop
 decreases-loop first₀ second₀ third₀ out₀ left₀ first second third out left = left
 
+loop-holds : tie.Need-loop-init invariant-loop decreases-loop
+loop-holds c = search rules
+
+answer-next-requires : tie.Need-answer-next-requires invariant-loop decreases-loop
+answer-next-requires c κs = search rules
+
+same_length : tie.Need-same-length invariant-loop decreases-loop
+same_length c = search rules
+
+same-length-2 : tie.Need-same-length-2 invariant-loop decreases-loop
+same-length-2 c = search rules
+
+same-length-3 : tie.Need-same-length-3 invariant-loop decreases-loop
+same-length-3 c = search rules
+
+same-length-4 : tie.Need-same-length-4 invariant-loop decreases-loop
+same-length-4 c = search rules
+
+returns : tie.Need-returns invariant-loop decreases-loop
+returns c = search rules
+
+sub-left : tie.Need-overflow-sub-left invariant-loop decreases-loop
+sub-left c = search rules
+
+loop-less : tie.Need-loop-smaller invariant-loop decreases-loop
+loop-less c = search rules
+
+loop-again : tie.Need-loop-preserved invariant-loop decreases-loop
+loop-again c = search rules
+
+same-length-5 : tie.Need-same-length-5 invariant-loop decreases-loop
+same-length-5 c = search rules
+
+same-length-6 : tie.Need-same-length-6 invariant-loop decreases-loop
+same-length-6 c = search rules
+
+same-length-7 : tie.Need-same-length-7 invariant-loop decreases-loop
+same-length-7 c = search rules
+
+same-length-8 : tie.Need-same-length-8 invariant-loop decreases-loop
+same-length-8 c = search rules
+
+returns-2 : tie.Need-returns-2 invariant-loop decreases-loop
+returns-2 c = search rules
+
 pub answer-all-spec : {M : Type 1} → statement M
 answer-all-spec =
     tie.close
     (tie.spec
     invariant-loop
     decreases-loop
-    (λ c. search rules)
-    (λ c κs. search rules)
-    (λ c. search rules)
-    (λ c. search rules)
-    (λ c. search rules)
-    (λ c. search rules)
-    (λ c. search rules)
-    (λ c. search rules)
-    (λ c. search rules)
-    (λ c. search rules)
-    (λ c. search rules)
-    (λ c. search rules)
-    (λ c. search rules)
-    (λ c. search rules)
-    (λ c. search rules))
+    loop-holds
+    answer-next-requires
+    same_length
+    same-length-2
+    same-length-3
+    same-length-4
+    returns
+    sub-left
+    loop-less
+    loop-again
+    same-length-5
+    same-length-6
+    same-length-7
+    same-length-8
+    returns-2)

@@ -7,10 +7,31 @@ use Rattle.bits.proofs.Turns.{eight_bytes}
 use Rattle.bits.proofs.long.write_number.Statement.{statement}
 use Rattle.bits.proofs.long.write_number.Tie as tie
 
+set-bits-requires : tie.Need-set-bits-requires
+set-bits-requires c κs = search rules
+
+same_length : tie.Need-same-length
+same_length c = search rules
+
 returns : tie.Need-returns
 returns c =
     let e : min c.before.before.before.before.before.before.args.length 64 ≡ c.before.before.before.before.before.before.args.length = omega arith in
     c.before.before.set-bits.ensures ∙ rw e
+
+slice-aggregate-store : tie.Need-slice-aggregate-store
+slice-aggregate-store c = search rules
+
+store-requires : tie.Need-store-requires
+store-requires c κs = search rules
+
+slice-aggregate-write-long : tie.Need-slice-aggregate-write-long
+slice-aggregate-write-long c = search rules
+
+write-long-requires : tie.Need-write-long-requires
+write-long-requires c κs = search rules
+
+same-length-2 : tie.Need-same-length-2
+same-length-2 c = search rules
 
 returns-2 : tie.Need-returns-2
 returns-2 c =
@@ -21,12 +42,12 @@ pub write-number-spec : {M : Type 1} → statement M
 write-number-spec =
     tie.close
     (tie.spec
-    (λ c κs. search rules)
-    (λ c. search rules)
+    set-bits-requires
+    same_length
     returns
-    (λ c. search rules)
-    (λ c κs. search rules)
-    (λ c. search rules)
-    (λ c κs. search rules)
-    (λ c. search rules)
+    slice-aggregate-store
+    store-requires
+    slice-aggregate-write-long
+    write-long-requires
+    same-length-2
     returns-2)

@@ -17,8 +17,26 @@ invariant-loop s₀ offset length at r full top j₀ s j = (j ≤ full) × (s �
 abbrev decreases-loop : tie.decreases-loop
 decreases-loop s₀ offset length at r full top j₀ s j = j
 
+reach-requires : tie.Need-reach-requires invariant-loop decreases-loop
+reach-requires c κs = search rules
+
+word-requires : tie.Need-word-requires invariant-loop decreases-loop
+word-requires c κs = search rules
+
 loop-holds : tie.Need-loop-init invariant-loop decreases-loop
 loop-holds c = (search rules, self_none _ _ _ (λ j. (c.before.before.before.slice-known.given j).fits), refl)
+
+word-requires-2 : tie.Need-word-requires-2 invariant-loop decreases-loop
+word-requires-2 c κs = search rules
+
+add-set-at : tie.Need-overflow-add-set-at invariant-loop decreases-loop
+add-set-at c = search rules
+
+set-at-requires : tie.Need-set-at-requires invariant-loop decreases-loop
+set-at-requires c κs = search rules
+
+loop-less : tie.Need-loop-smaller invariant-loop decreases-loop
+loop-less c = search rules
 
 loop-again : tie.Need-loop-preserved invariant-loop decreases-loop
 loop-again c =
@@ -29,6 +47,33 @@ loop-again c =
     c.before.before.set_at.ensures
     ∙ rw (c.before.before.before.before.word2.ensures, l.invariant.1) (self_turn a.s.now a.offset (8 * full) l.j (search rules) (search rules) (search rules)) in
     (search rules, e, ap L.length e ∙ with_bits_length _ _ _ _)
+
+word-requires-3 : tie.Need-word-requires-3 invariant-loop decreases-loop
+word-requires-3 c κs = search rules
+
+mul-set-at : tie.Need-overflow-mul-set-at invariant-loop decreases-loop
+mul-set-at c = search rules
+
+set-at-requires-2 : tie.Need-set-at-requires-2 invariant-loop decreases-loop
+set-at-requires-2 c κs = search rules
+
+add-set-at-2 : tie.Need-overflow-add-set-at-2 invariant-loop decreases-loop
+add-set-at-2 c = search rules
+
+mul-lesser : tie.Need-overflow-mul-lesser invariant-loop decreases-loop
+mul-lesser c = search rules
+
+sub-lesser : tie.Need-overflow-sub-lesser invariant-loop decreases-loop
+sub-lesser c = search rules
+
+lesser-requires : tie.Need-lesser-requires invariant-loop decreases-loop
+lesser-requires c κs = search rules
+
+set-at-requires-3 : tie.Need-set-at-requires-3 invariant-loop decreases-loop
+set-at-requires-3 c κs = search rules
+
+same_length : tie.Need-same-length invariant-loop decreases-loop
+same_length c = search rules
 
 returns : tie.Need-returns invariant-loop decreases-loop
 returns c =
@@ -48,21 +93,21 @@ write-self-spec =
     (tie.spec
     invariant-loop
     decreases-loop
-    (λ c κs. search rules)
-    (λ c κs. search rules)
+    reach-requires
+    word-requires
     loop-holds
-    (λ c κs. search rules)
-    (λ c. search rules)
-    (λ c κs. search rules)
-    (λ c. search rules)
+    word-requires-2
+    add-set-at
+    set-at-requires
+    loop-less
     loop-again
-    (λ c κs. search rules)
-    (λ c. search rules)
-    (λ c κs. search rules)
-    (λ c. search rules)
-    (λ c. search rules)
-    (λ c. search rules)
-    (λ c κs. search rules)
-    (λ c κs. search rules)
-    (λ c. search rules)
+    word-requires-3
+    mul-set-at
+    set-at-requires-2
+    add-set-at-2
+    mul-lesser
+    sub-lesser
+    lesser-requires
+    set-at-requires-3
+    same_length
     returns)

@@ -10,10 +10,34 @@ returns c =
     let a = c.before.before.args in
     word_none a.s.now a.at (search rules)
 
+add-over : tie.Need-overflow-add-over
+add-over c = search rules
+
+sub-over : tie.Need-overflow-sub-over
+sub-over c = search rules
+
+sub-load8 : tie.Need-overflow-sub-load8
+sub-load8 c = search rules
+
+load8-requires : tie.Need-load8-requires
+load8-requires c κs = search rules
+
+mul-result : tie.Need-overflow-mul-result
+mul-result c = search rules
+
+shr-result : tie.Need-overflow-shr-result
+shr-result c = search rules
+
 returns-2 : tie.Need-returns-2
 returns-2 c =
     let a = c.before.before.before.before.args in
     rw c.load8.ensures (word_last a.s.now a.at (search rules) (search rules) (search rules))
+
+sub-load-bytes : tie.Need-overflow-sub-load-bytes
+sub-load-bytes c = search rules
+
+load-bytes-requires : tie.Need-load-bytes-requires
+load-bytes-requires c κs = search rules
 
 returns-3 : tie.Need-returns-3
 returns-3 c =
@@ -25,13 +49,13 @@ last-word-spec =
     tie.close
     (tie.spec
     returns
-    (λ c. search rules)
-    (λ c. search rules)
-    (λ c. search rules)
-    (λ c κs. search rules)
-    (λ c. search rules)
-    (λ c. search rules)
+    add-over
+    sub-over
+    sub-load8
+    load8-requires
+    mul-result
+    shr-result
     returns-2
-    (λ c. search rules)
-    (λ c κs. search rules)
+    sub-load-bytes
+    load-bytes-requires
     returns-3)

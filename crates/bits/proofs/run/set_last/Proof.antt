@@ -9,10 +9,37 @@ use Rattle.bits.proofs.run.set_last.Tie as tie
 returns : tie.Need-returns
 returns c = with_bits_past _ _ _ _ (λ j. (c.before.slice-known.given j).fits) (search rules)
 
+sub-last : tie.Need-overflow-sub-last
+sub-last c = search rules
+
+sub-splice8 : tie.Need-overflow-sub-splice8
+sub-splice8 c = search rules
+
+mul-splice8 : tie.Need-overflow-mul-splice8
+mul-splice8 c = search rules
+
+add-splice8 : tie.Need-overflow-add-splice8
+add-splice8 c = search rules
+
+splice8-requires : tie.Need-splice8-requires
+splice8-requires c κs = search rules
+
+same_length : tie.Need-same-length
+same_length c = search rules
+
 returns-2 : tie.Need-returns-2
 returns-2 c =
     let a = c.before.before.before.before.before.before.before.args in
     c.before.before.splice8.ensures ∙ set_last a.s.now a.at a.r a.n a.v (search rules) (search rules) (search rules) (search rules)
+
+sub-left : tie.Need-overflow-sub-left
+sub-left c = search rules
+
+splice-requires : tie.Need-splice-requires
+splice-requires c κs = search rules
+
+same-length-2 : tie.Need-same-length-2
+same-length-2 c = search rules
 
 returns-3 : tie.Need-returns-3
 returns-3 c =
@@ -24,14 +51,14 @@ set-last-spec =
     tie.close
     (tie.spec
     returns
-    (λ c. search rules)
-    (λ c. search rules)
-    (λ c. search rules)
-    (λ c. search rules)
-    (λ c κs. search rules)
-    (λ c. search rules)
+    sub-last
+    sub-splice8
+    mul-splice8
+    add-splice8
+    splice8-requires
+    same_length
     returns-2
-    (λ c. search rules)
-    (λ c κs. search rules)
-    (λ c. search rules)
+    sub-left
+    splice-requires
+    same-length-2
     returns-3)

@@ -11,6 +11,33 @@ invariant-loop s t i₀ i = (i ≤ length s) × (i ≤ length t) × Undecided s 
 abbrev decreases-loop : tie.decreases-loop
 decreases-loop s t i₀ i = length s - i
 
+loop-holds : tie.Need-loop-init invariant-loop decreases-loop
+loop-holds c = (search rules, search rules, refl)
+
+sub-loop : tie.Need-overflow-sub-loop invariant-loop decreases-loop
+sub-loop c = search rules
+
+sub-if1 : tie.Need-overflow-sub-if1 invariant-loop decreases-loop
+sub-if1 c = search rules
+
+returns : tie.Need-returns invariant-loop decreases-loop
+returns c = search rules
+
+load-requires : tie.Need-load-requires invariant-loop decreases-loop
+load-requires c κs = search rules
+
+load-requires-2 : tie.Need-load-requires-2 invariant-loop decreases-loop
+load-requires-2 c κs = search rules
+
+returns-2 : tie.Need-returns-2 invariant-loop decreases-loop
+returns-2 c = search rules
+
+add-i : tie.Need-overflow-add-i invariant-loop decreases-loop
+add-i c = search rules
+
+loop-less : tie.Need-loop-smaller invariant-loop decreases-loop
+loop-less c = search rules
+
 loop-again : tie.Need-loop-preserved invariant-loop decreases-loop
 loop-again c =
     let l = c.before.before.before.before.before in
@@ -29,20 +56,23 @@ loop-again c =
           (omega arith),
     )
 
+returns-3 : tie.Need-returns-3 invariant-loop decreases-loop
+returns-3 c = search rules
+
 pub same-words-spec : {M : Type 1} → statement M
 same-words-spec =
     tie.close
     (tie.spec
     invariant-loop
     decreases-loop
-    (λ c. (search rules, search rules, refl))
-    (λ c. search rules)
-    (λ c. search rules)
-    (λ c. search rules)
-    (λ c κs. search rules)
-    (λ c κs. search rules)
-    (λ c. search rules)
-    (λ c. search rules)
-    (λ c. search rules)
+    loop-holds
+    sub-loop
+    sub-if1
+    returns
+    load-requires
+    load-requires-2
+    returns-2
+    add-i
+    loop-less
     loop-again
-    (λ c. search rules))
+    returns-3)

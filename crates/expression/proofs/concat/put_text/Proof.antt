@@ -1,32 +1,43 @@
--- `concat::put_text` meets its contract: each arm is a kind of value, with a string, a name or neither.
+-- `concat::put_text` meets its contract: a String's own bytes, or the name of its kind.
 -- Assumes nothing.
-use Rattle.value.proofs.Answering.{hands_out}
-use Rattle.expression.proofs.Naming.{by-boolean, by-integer, by-string, by-buffer, by_name}
+use Rattle.expression.proofs.Naming.{string_fits, string_put, kind_fits, kind_put}
 use Rattle.std.proofs.Common.{rules}
 use Rattle.expression.proofs.concat.put_text.Statement.{statement}
 use Rattle.expression.proofs.concat.put_text.Tie as tie
+
+enum_told : tie.Need-enum-told
+enum_told c = search rules
+
+copy-requires : tie.Need-copy-requires
+copy-requires c κs = search string_fits
+
+type-of-requires : tie.Need-type-of-requires
+type-of-requires c κs = search rules
+
+put-name-requires : tie.Need-put-name-requires
+put-name-requires c κs = search kind_fits
+
+same_length : tie.Need-same-length
+same_length c = search rules
+
+returns : tie.Need-returns
+returns c = search string_put
+
+same-length-2 : tie.Need-same-length-2
+same-length-2 c = search rules
+
+returns-2 : tie.Need-returns-2
+returns-2 c = search kind_put
 
 pub put-text-spec : {M : Type 1} → statement M
 put-text-spec =
     tie.close
     (tie.spec
-    (λ c. search rules)
-    (λ c κs. search rules)
-    (λ c. search rules)
-    (λ c κs. search rules)
-    (λ c. search rules)
-    (λ c κs. search rules)
-    (λ c. search rules)
-    (λ c κs. search rules)
-    (λ c κs. search rules)
-    (λ c κs. search rules)
-    (λ c. search rules)
-    (λ c. search (hands_out, by-boolean))
-    (λ c. search rules)
-    (λ c. search (hands_out, by-integer))
-    (λ c. search rules)
-    (λ c. search (hands_out, by-string))
-    (λ c. search rules)
-    (λ c. search (hands_out, by-buffer))
-    (λ c. search rules)
-    (λ c. search (hands_out, by_name)))
+    enum_told
+    copy-requires
+    type-of-requires
+    put-name-requires
+    same_length
+    returns
+    same-length-2
+    returns-2)

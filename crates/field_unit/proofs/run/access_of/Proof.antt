@@ -3,5 +3,11 @@
 use Rattle.field_unit.proofs.run.access_of.Statement.{statement}
 use Rattle.field_unit.proofs.run.access_of.Tie as tie
 
+returns : tie.Need-returns
+returns c = rw c.if1.true
+
+returns-2 : tie.Need-returns-2
+returns-2 c = rw c.if1.false
+
 pub access-of-spec : {M : Type 1} → statement M
-access-of-spec = tie.close (tie.spec (λ c. rw c.if1.true) (λ c. rw c.if1.false))
+access-of-spec = tie.close (tie.spec returns returns-2)

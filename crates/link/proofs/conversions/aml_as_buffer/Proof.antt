@@ -1,24 +1,54 @@
 -- `link::conversions::aml_as_buffer` meets its contract: the numbers of what `as_buffer` answers, and its output; nothing of a kind that there is not.
 -- Assumes nothing.
-use Rattle.link.proofs.Known.{no_value, is-value}
-use Rattle.link.proofs.Numbers.{kept, hosts}
+use mathlib.Core.Path.{ap, ◌∙◌}
+use Rattle.value.specs.Conversions.{Given}
+use Rattle.link.specs.Answers.{bytes_answer}
+use Rattle.link.proofs.Known.{no_value, is_value}
 use borrow.Author.Rules.{rules}
 use Rattle.link.proofs.conversions.aml_as_buffer.Statement.{statement}
 use Rattle.link.proofs.conversions.aml_as_buffer.Tie as tie
 
+given-of-requires : tie.Need-given-of-requires
+given-of-requires c κs = search rules
+
+enum-known-g : tie.Need-enum-known-g
+enum-known-g c = search rules
+
+enum_told : tie.Need-enum-told
+enum_told c = search rules
+
+no-such-kind-requires : tie.Need-no-such-kind-requires
+no-such-kind-requires c κs = search rules
+
+returns : tie.Need-returns
+returns c = (search no_value, search no_value)
+
+as-buffer-requires : tie.Need-as-buffer-requires
+as-buffer-requires c κs = search rules
+
+bytes-answer-requires : tie.Need-bytes-answer-requires
+bytes-answer-requires c κs = search rules
+
+same_length : tie.Need-same-length
+same_length c = search rules
+
 returns-2 : tie.Need-returns-2
-returns-2 c = let e = hosts c.host-answer.ensures c.before.before.before.as-buffer.ensures in search is-value
+returns-2 c =
+    let e = c.before.before.before.as-buffer.ensures in
+    let answered = c.bytes-answer.ensures ∙ ap (λ (x : Given). bytes_answer 3 x.answer) e in
+    let after = ap (λ (x : Given). x.out) e in
+    (search is_value, search is_value)
 
 pub aml-as-buffer-spec : {M : Type 1} → statement M
 aml-as-buffer-spec =
     tie.close
     (tie.spec
-    (λ c κs. search rules)
-    (λ c. search rules)
-    (λ c. search rules)
-    (λ c κs. search rules)
-    (λ c. search (no_value, kept))
-    (λ c κs. search rules)
-    (λ c κs. search rules)
-    (λ c. search rules)
+    given-of-requires
+    enum-known-g
+    enum_told
+    no-such-kind-requires
+    returns
+    as-buffer-requires
+    bytes-answer-requires
+    same_length
     returns-2)

@@ -2,9 +2,37 @@
 -- Assumes nothing.
 use mathlib.Core.Path.{sym, ap, ◌∙◌}
 use Rattle.link.specs.Tables.{step_answer}
+use Rattle.link.proofs.Numbers.{by_word}
 use borrow.Author.Rules.{rules}
 use Rattle.link.proofs.tables.step_answer.Statement.{statement}
 use Rattle.link.proofs.tables.step_answer.Tie as tie
+
+enum_told : tie.Need-enum-told
+enum_told c = search rules
+
+accepted-requires : tie.Need-accepted-requires
+accepted-requires c κs = search rules
+
+enum-told-2 : tie.Need-enum-told-2
+enum-told-2 c = search rules
+
+accepted-requires-2 : tie.Need-accepted-requires-2
+accepted-requires-2 c κs = search rules
+
+enum-known-a : tie.Need-enum-known-a
+enum-known-a c = search rules
+
+accepted-requires-3 : tie.Need-accepted-requires-3
+accepted-requires-3 c κs = search rules
+
+enum-known-a-2 : tie.Need-enum-known-a-2
+enum-known-a-2 c = search rules
+
+word-of-requires : tie.Need-word-of-requires
+word-of-requires c κs = search rules
+
+refused-requires : tie.Need-refused-requires
+refused-requires c κs = search rules
 
 returns : tie.Need-returns
 unfolding step_answer
@@ -20,20 +48,21 @@ returns-3 c = c.accepted3.ensures ∙ sym (ap step_answer c.before.before.a.give
 
 returns-4 : tie.Need-returns-4
 unfolding step_answer
-returns-4 c = c.refused.ensures ∙ sym (ap step_answer c.before.before.a2.given.1)
+returns-4 c = by_word _ c.before.word_of.ensures c.refused.ensures ∙ sym (ap step_answer c.before.before.before.a2.given.1)
 
 pub step-answer-spec : {M : Type 1} → statement M
 step-answer-spec =
     tie.close
     (tie.spec
-    (λ c. search rules)
-    (λ c κs. search rules)
-    (λ c. search rules)
-    (λ c κs. search rules)
-    (λ c. search rules)
-    (λ c κs. search rules)
-    (λ c. search rules)
-    (λ c κs. search rules)
+    enum_told
+    accepted-requires
+    enum-told-2
+    accepted-requires-2
+    enum-known-a
+    accepted-requires-3
+    enum-known-a-2
+    word-of-requires
+    refused-requires
     returns
     returns-2
     returns-3

@@ -6,7 +6,7 @@ use native.Mathlib.Omega.{arith}
 use borrow.Author.Rules.{rules}
 use lib.ListN.{length, drop}
 use Rattle.text.specs.Lines.{begins}
-use Rattle.text.proofs.FirstLines.{begins_short, begins-step, begins-stop, begins-done}
+use Rattle.text.proofs.FirstLines.{begins_short, begins_step, begins_stop, begins_done}
 use Rattle.text.proofs.lines.begins_with.Statement.{statement}
 use Rattle.text.proofs.lines.begins_with.Tie as tie
 
@@ -22,23 +22,35 @@ returns c = begins_short c.before.args.name.now c.before.args.line.now c.if1.tru
 loop-holds : tie.Need-loop-init invariant-loop decreases-loop
 loop-holds c = (search rules, refl)
 
+shared-slice-read-if2 : tie.Need-shared-slice-read-if2 invariant-loop decreases-loop
+shared-slice-read-if2 c = search rules
+
+shared-slice-read-if2-2 : tie.Need-shared-slice-read-if2-2 invariant-loop decreases-loop
+shared-slice-read-if2-2 c = search rules
+
 returns-2 : tie.Need-returns-2 invariant-loop decreases-loop
 returns-2 c =
     let l = c.before.before.before.before in
     let a = l.before.before.args in
-    begins-stop a.name.now a.line.now l.loop.i (omega arith) (omega arith) (λ e. omega arith) ∙ l.loop.invariant.1
+    begins_stop a.name.now a.line.now l.loop.i (omega arith) (omega arith) (λ e. omega arith) ∙ l.loop.invariant.1
+
+add-i : tie.Need-overflow-add-i invariant-loop decreases-loop
+add-i c = search rules
+
+loop-less : tie.Need-loop-smaller invariant-loop decreases-loop
+loop-less c = search rules
 
 loop-again : tie.Need-loop-preserved invariant-loop decreases-loop
 loop-again c =
     let l = c.before.before.before.before in
     let a = l.before.before.args in
-    (omega arith, begins-step a.name.now a.line.now l.loop.i (omega arith) (omega arith) (omega arith) ∙ l.loop.invariant.1)
+    (omega arith, begins_step a.name.now a.line.now l.loop.i (omega arith) (omega arith) (omega arith) ∙ l.loop.invariant.1)
 
 returns-3 : tie.Need-returns-3 invariant-loop decreases-loop
 returns-3 c =
     let l = c.before in
     let a = l.before.before.args in
-    begins-done a.name.now a.line.now l.loop.i (omega arith) ∙ l.loop.invariant.1
+    begins_done a.name.now a.line.now l.loop.i (omega arith) ∙ l.loop.invariant.1
 
 pub begins-with-spec : {M : Type 1} → statement M
 begins-with-spec =
@@ -48,10 +60,10 @@ begins-with-spec =
     decreases-loop
     returns
     loop-holds
-    (λ c. search rules)
-    (λ c. search rules)
+    shared-slice-read-if2
+    shared-slice-read-if2-2
     returns-2
-    (λ c. search rules)
-    (λ c. search rules)
+    add-i
+    loop-less
     loop-again
     returns-3)

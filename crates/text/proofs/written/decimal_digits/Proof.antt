@@ -7,7 +7,7 @@ use native.Mathlib.Omega.{arith}
 use borrow.Author.Rules.{rules}
 use lib.ListN.{length, drop, length-set}
 use Rattle.text.specs.Written.{decimal_digits, decimal_text}
-use Rattle.text.proofs.Decimals.{digits_begin, digits_step, digits-end, deeper, tenth}
+use Rattle.text.proofs.Decimals.{digits_begin, digits_step, digits_end, deeper, tenth}
 use Rattle.text.proofs.written.decimal_digits.Statement.{statement}
 use Rattle.text.proofs.written.decimal_digits.Tie as tie
 
@@ -20,10 +20,22 @@ decreases-loop d₀ n left₀ k₀ d left k = left
 loop-holds : tie.Need-loop-init invariant-loop decreases-loop
 loop-holds c = (search rules, search rules, digits_begin c.args.d.now c.args.n c.requires, c.requires)
 
+cast-d : tie.Need-overflow-cast-d invariant-loop decreases-loop
+cast-d c = search rules
+
+add-d : tie.Need-overflow-add-d invariant-loop decreases-loop
+add-d c = search rules
+
+slice-write-d : tie.Need-slice-write-d invariant-loop decreases-loop
+slice-write-d c = search rules
+
 sub-k : tie.Need-overflow-sub-k invariant-loop decreases-loop
 sub-k c =
     let l = c.before.loop in
     omega (arith, deeper l.k l.left (omega arith) l.invariant.1)
+
+loop-less : tie.Need-loop-smaller invariant-loop decreases-loop
+loop-less c = search rules
 
 loop-again : tie.Need-loop-preserved invariant-loop decreases-loop
 loop-again c =
@@ -36,6 +48,15 @@ loop-again c =
       length-set l.d l.k (48 + l.left % 10) ∙ l.invariant.3,
     )
 
+cast-d-2 : tie.Need-overflow-cast-d-2 invariant-loop decreases-loop
+cast-d-2 c = search rules
+
+add-d-2 : tie.Need-overflow-add-d-2 invariant-loop decreases-loop
+add-d-2 c = search rules
+
+slice-write-d-2 : tie.Need-slice-write-d-2 invariant-loop decreases-loop
+slice-write-d-2 c = search rules
+
 same_length : tie.Need-same-length invariant-loop decreases-loop
 same_length c =
     let l = c.before.loop in
@@ -44,7 +65,7 @@ same_length c =
 returns : tie.Need-returns invariant-loop decreases-loop
 returns c =
     let l = c.before.loop in
-    (digits-end l.d l.k l.left (omega arith) (omega arith) ∙ l.invariant.2, omega arith)
+    (digits_end l.d l.k l.left (omega arith) (omega arith) ∙ l.invariant.2, omega arith)
 
 pub decimal-digits-spec : {M : Type 1} → statement M
 decimal-digits-spec =
@@ -53,14 +74,14 @@ decimal-digits-spec =
     invariant-loop
     decreases-loop
     loop-holds
-    (λ c. search rules)
-    (λ c. search rules)
-    (λ c. search rules)
+    cast-d
+    add-d
+    slice-write-d
     sub-k
-    (λ c. search rules)
+    loop-less
     loop-again
-    (λ c. search rules)
-    (λ c. search rules)
-    (λ c. search rules)
+    cast-d-2
+    add-d-2
+    slice-write-d-2
     same_length
     returns)

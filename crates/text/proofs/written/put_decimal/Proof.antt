@@ -10,6 +10,30 @@ use Rattle.text.specs.Written.{over}
 use Rattle.text.proofs.written.put_decimal.Statement.{statement}
 use Rattle.text.proofs.written.put_decimal.Tie as tie
 
+slice-aggregate-decimal-digits : tie.Need-slice-aggregate-decimal-digits
+slice-aggregate-decimal-digits c = search rules
+
+decimal-digits-requires : tie.Need-decimal-digits-requires
+decimal-digits-requires c κs = search rules
+
+sub-put-bytes : tie.Need-overflow-sub-put-bytes
+sub-put-bytes c = search rules
+
+part-put-bytes-start : tie.Need-slice-bounds-put-bytes-start
+part-put-bytes-start c = search rules
+
+part-put-bytes-end : tie.Need-slice-bounds-put-bytes-end
+part-put-bytes-end c = search rules
+
+put-bytes-requires : tie.Need-put-bytes-requires
+put-bytes-requires c κs = search rules
+
+sub-result : tie.Need-overflow-sub-result
+sub-result c = search rules
+
+same_length : tie.Need-same-length
+same_length c = search rules
+
 returns : tie.Need-returns
 returns c =
     let d = c.before.before.before.before.before.before.before in
@@ -25,12 +49,12 @@ pub put-decimal-spec : {M : Type 1} → statement M
 put-decimal-spec =
     tie.close
     (tie.spec
-    (λ c. search rules)
-    (λ c κs. search rules)
-    (λ c. search rules)
-    (λ c. search rules)
-    (λ c. search rules)
-    (λ c κs. search rules)
-    (λ c. search rules)
-    (λ c. search rules)
+    slice-aggregate-decimal-digits
+    decimal-digits-requires
+    sub-put-bytes
+    part-put-bytes-start
+    part-put-bytes-end
+    put-bytes-requires
+    sub-result
+    same_length
     returns)

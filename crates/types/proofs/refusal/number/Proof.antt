@@ -4,6 +4,78 @@ use borrow.Author.Rules.{rules}
 use Rattle.types.proofs.refusal.number.Statement.{statement}
 use Rattle.types.proofs.refusal.number.Tie as tie
 
+enum_told : tie.Need-enum-told
+enum_told c = search rules
+
+enum-told-2 : tie.Need-enum-told-2
+enum-told-2 c = search rules
+
+enum-told-3 : tie.Need-enum-told-3
+enum-told-3 c = search rules
+
+enum-told-4 : tie.Need-enum-told-4
+enum-told-4 c = search rules
+
+enum-told-5 : tie.Need-enum-told-5
+enum-told-5 c = search rules
+
+enum-told-6 : tie.Need-enum-told-6
+enum-told-6 c = search rules
+
+enum-told-7 : tie.Need-enum-told-7
+enum-told-7 c = search rules
+
+enum-told-8 : tie.Need-enum-told-8
+enum-told-8 c = search rules
+
+enum-told-9 : tie.Need-enum-told-9
+enum-told-9 c = search rules
+
+enum-told-10 : tie.Need-enum-told-10
+enum-told-10 c = search rules
+
+enum-told-11 : tie.Need-enum-told-11
+enum-told-11 c = search rules
+
+enum-told-12 : tie.Need-enum-told-12
+enum-told-12 c = search rules
+
+enum-told-13 : tie.Need-enum-told-13
+enum-told-13 c = search rules
+
+enum-told-14 : tie.Need-enum-told-14
+enum-told-14 c = search rules
+
+enum-told-15 : tie.Need-enum-told-15
+enum-told-15 c = search rules
+
+enum-told-16 : tie.Need-enum-told-16
+enum-told-16 c = search rules
+
+enum-told-17 : tie.Need-enum-told-17
+enum-told-17 c = search rules
+
+enum-told-18 : tie.Need-enum-told-18
+enum-told-18 c = search rules
+
+enum-told-19 : tie.Need-enum-told-19
+enum-told-19 c = search rules
+
+enum-told-20 : tie.Need-enum-told-20
+enum-told-20 c = search rules
+
+enum-told-21 : tie.Need-enum-told-21
+enum-told-21 c = search rules
+
+enum-told-22 : tie.Need-enum-told-22
+enum-told-22 c = search rules
+
+enum-told-23 : tie.Need-enum-told-23
+enum-told-23 c = search rules
+
+enum-told-24 : tie.Need-enum-told-24
+enum-told-24 c = search rules
+
 returns : tie.Need-returns
 returns c = rw c.enum_told.given.1
 
@@ -80,30 +152,30 @@ pub number-spec : {M : Type 1} → statement M
 number-spec =
     tie.close
     (tie.spec
-    (λ c. search rules)
-    (λ c. search rules)
-    (λ c. search rules)
-    (λ c. search rules)
-    (λ c. search rules)
-    (λ c. search rules)
-    (λ c. search rules)
-    (λ c. search rules)
-    (λ c. search rules)
-    (λ c. search rules)
-    (λ c. search rules)
-    (λ c. search rules)
-    (λ c. search rules)
-    (λ c. search rules)
-    (λ c. search rules)
-    (λ c. search rules)
-    (λ c. search rules)
-    (λ c. search rules)
-    (λ c. search rules)
-    (λ c. search rules)
-    (λ c. search rules)
-    (λ c. search rules)
-    (λ c. search rules)
-    (λ c. search rules)
+    enum_told
+    enum-told-2
+    enum-told-3
+    enum-told-4
+    enum-told-5
+    enum-told-6
+    enum-told-7
+    enum-told-8
+    enum-told-9
+    enum-told-10
+    enum-told-11
+    enum-told-12
+    enum-told-13
+    enum-told-14
+    enum-told-15
+    enum-told-16
+    enum-told-17
+    enum-told-18
+    enum-told-19
+    enum-told-20
+    enum-told-21
+    enum-told-22
+    enum-told-23
+    enum-told-24
     returns
     returns-2
     returns-3

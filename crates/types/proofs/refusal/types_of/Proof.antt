@@ -5,6 +5,18 @@ use Rattle.types.proofs.Carried.{carries_nothing}
 use Rattle.types.proofs.refusal.types_of.Statement.{statement}
 use Rattle.types.proofs.refusal.types_of.Tie as tie
 
+enum-known-r : tie.Need-enum-known-r
+enum-known-r c = search rules
+
+enum-known-r-2 : tie.Need-enum-known-r-2
+enum-known-r-2 c = search rules
+
+enum-known-r-3 : tie.Need-enum-known-r-3
+enum-known-r-3 c = search rules
+
+enum-known-r-4 : tie.Need-enum-known-r-4
+enum-known-r-4 c = search rules
+
 returns : tie.Need-returns
 returns c = rw c.before.r.given.1
 
@@ -24,10 +36,10 @@ pub types-of-spec : {M : Type 1} → statement M
 types-of-spec =
     tie.close
     (tie.spec
-    (λ c. search rules)
-    (λ c. search rules)
-    (λ c. search rules)
-    (λ c. search rules)
+    enum-known-r
+    enum-known-r-2
+    enum-known-r-3
+    enum-known-r-4
     returns
     returns-2
     returns-3
