@@ -1,5 +1,7 @@
 // Buffer fields: a run of bits of a lent buffer, read as an Integer or a Buffer, written by an Integer, a Boolean or a Buffer.
 // No public function has a `requires`: every argument is checked, and a refusal changes no byte.
+#![tactic(auto)]
+
 ghost use Rattle.std.specs.Prelude.{◌≡◌, ◌+◌, ◌*◌, ◌≤◌, min, [], ltb};
 ghost use lib.ListN;
 ghost use Rattle.bits.specs.Bits.{bit_at, bit_of};

@@ -1,5 +1,7 @@
 // The operators, named as in expression.rs of the crate aml. Bytes are lent beside each operand.
 // No public function has a `requires`: every argument is checked, and a refusal changes no byte.
+#![tactic(auto)]
+
 mod answer; // why a conversion was refused
 pub mod buffer; // building a buffer
 pub mod compare; // comparing two values

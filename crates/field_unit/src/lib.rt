@@ -1,5 +1,7 @@
 // Field units: fields of a region, loaded and stored by whole access units.
 // No public function has a `requires`: every argument is checked, and a refusal changes no byte.
+#![tactic(auto)]
+
 pub mod access; // one load or store: which it is, and what it does
 pub mod check; // which fields are refused
 pub mod next; // the next single access of an operation

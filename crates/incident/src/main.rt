@@ -1,4 +1,6 @@
 // The incident, replayed: a twelve-bit fill count is written into a record whose other four bits are a valve timer's trim.
+#![tactic(auto)]
+
 use field_unit::whole::{UnitWritten, write_field};
 use libc::STDOUT_FILENO;
 use types::flags::FieldFlags;

@@ -1,5 +1,7 @@
 // Document 01's script program: reads standard input to its end, answers its jobs, writes the answers to standard output.
 // 65,537 bytes are enough to know that an input is too long; 589,860 are room for any output (script/proofs/Sizes, never_short).
+#![tactic(auto)]
+
 use libc::{STDIN_FILENO, STDOUT_FILENO};
 use value::convert::LengthAnswer;
 

@@ -1,5 +1,7 @@
 // Schedules of two and three short operations, all interleavings of their calls, each run to its end on the task table and compared with
 // the same operations run whole, in the order in which they finished. Where the premise holds they agree; where it does not, some differ.
+#![tactic(auto)]
+
 ghost use Rattle.std.specs.Prelude.{◌<◌};
 
 mod ops;

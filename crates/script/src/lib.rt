@@ -1,4 +1,6 @@
 // The script program of document 01, as a function from the input's bytes to the output's. No public function has a `requires`.
+#![tactic(auto)]
+
 mod answer; // what an op answers, as two lines
 mod job; // one job
 mod operand; // the text of an operand

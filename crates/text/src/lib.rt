@@ -1,5 +1,7 @@
 // Texts: the numbers that digits say (decimal, hex of either case, leading zeros free), lines and hex pairs, and what is written.
 // No public function has a `requires`.
+#![tactic(auto)]
+
 pub mod lines; // lines, names, hex pairs: what is read
 pub mod written; // bytes, hex pairs, decimal numbers: what is written
 

@@ -1,5 +1,7 @@
 // Reads jobs from standard input, one to a line, calls what each asks for, and writes an answer line for each.
 // tests/lines.py says what the columns of both lines are; tests/expected.py makes jobs and knows the answers by itself.
+#![tactic(auto)]
+
 mod calls; // a job's call
 mod fields; // calls on field units, buffer fields, flags and types
 mod job; // the columns of a job, and what they say
