@@ -13,7 +13,7 @@ use types::refusal::{Outcome, Refusal};
 use types::value::{AmlValue, type_of};
 
 // What reading a field gives: up to 64 bits an Integer, more a Buffer of so many bytes, which stand at the front of the output.
-#[derive(Drop)]
+#[derive(Clone, Copy)]
 pub enum FieldRead {
     Integer(u64),
     Buffer(usize),

@@ -2,7 +2,8 @@
 -- Assumes nothing.
 use Rattle.std.proofs.Common.{◌≡◌, ℕ, ◌+◌, ◌-◌, ◌<◌, ◌≤◌, Bool, List, [], ◌∷◌, ◌++◌, length, get_or, take, drop, sym, refl, ap, ◌∙◌, arith, length-append, length-drop, get_or-drop}
 use denote.Enum.Declared.{tag_of}
-use types.Run.{OneOf, miss}
+use types.Run.{miss}
+use borrow.Enum.Refused.{Among, opened}
 use borrow.Rule.Slice.PartMut.{put_mid}
 use Rattle.bits.specs.Bits.{bit_of, set_bits}
 use Rattle.bits.proofs.Laws.{bytes_length}
@@ -167,11 +168,11 @@ joined_numbers (IA.Integer i) (IA.Integer n) = refl
 abbrev pub texty : List ℕ
 texty = 2 ∷ 4 ∷ 5 ∷ 6 ∷ 7 ∷ 8 ∷ 9 ∷ 10 ∷ 11 ∷ 12 ∷ 13 ∷ []
 
-joined_texts : (v : AmlValue) (s : List ℕ) (b : Held) → OneOf texty (tag_of AmlValue.the_type v) → join_both (text_of (held_by v s)) (text_of b) ≡ joined (held_by v s) b
+joined_texts : (v : AmlValue) (s : List ℕ) (b : Held) → Among texty (tag_of AmlValue.the_type v) → join_both (text_of (held_by v s)) (text_of b) ≡ joined (held_by v s) b
 unfolding joined
-joined_texts (Val.Boolean x) s b k = absurd (miss texty 0 tt k)
-joined_texts (Val.Integer x) s b k = absurd (miss texty 1 tt k)
-joined_texts Val.Buffer s b k = absurd (miss texty 3 tt k)
+joined_texts (Val.Boolean x) s b k = absurd (miss texty 0 tt (opened k))
+joined_texts (Val.Integer x) s b k = absurd (miss texty 1 tt (opened k))
+joined_texts Val.Buffer s b k = absurd (miss texty 3 tt (opened k))
 joined_texts Val.String s b k = refl
 joined_texts (Val.BufferField o n) s b k = refl
 joined_texts (Val.Field f) s b k = refl
@@ -202,7 +203,7 @@ module _ (a : AmlValue) (s : List ℕ) (b : AmlValue) (t out : List ℕ) where
     unfolding joined
     concat_buffer k f = by_left (join_buffers s (to_buffer (held_by b t))) (rw k) f
 
-    pub concat_text : OneOf texty (tag_of AmlValue.the_type a)
+    pub concat_text : Among texty (tag_of AmlValue.the_type a)
         → concatenated r w ≡ delivered (join_both (text_of (held_by a s)) (text_of (held_by b t))) out → concatenated r w ≡ concat a s b t out
     concat_text k f = by_left (join_both (text_of (held_by a s)) (text_of (held_by b t))) (joined_texts a s (held_by b t) k) f
 

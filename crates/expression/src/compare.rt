@@ -11,7 +11,7 @@ use types::refusal::Refusal;
 use types::value::{AmlValue, type_of};
 use value::convert::{LengthAnswer, buffer_length, string_length};
 
-#[derive(Drop)]
+#[derive(Clone, Copy)]
 pub enum CompareAnswer {
     Less,
     Equal,

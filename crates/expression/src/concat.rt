@@ -13,7 +13,7 @@ use types::refusal::Refusal;
 use types::value::{AmlType, AmlValue, type_of};
 use value::convert::{LengthAnswer, as_buffer, buffer_length};
 
-#[derive(Drop)]
+#[derive(Clone, Copy)]
 pub enum ConcatAnswer {
     String(usize),
     Buffer(usize),

@@ -8,7 +8,7 @@ use types::refusal::{Outcome, Refusal};
 use types::value::{AmlValue, type_of};
 
 // Where the part begins in the source, at its index or at the end, and how many bytes it has.
-#[derive(Drop)]
+#[derive(Clone, Copy)]
 pub enum Place {
     At(u64, u64),
     Refused(Refusal),

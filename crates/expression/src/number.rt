@@ -8,7 +8,7 @@ use types::value::AmlValue;
 use value::convert::{IntegerAnswer, as_integer};
 
 // Both operands as numbers.
-#[derive(Drop)]
+#[derive(Clone, Copy)]
 pub enum Operands {
     Two(u64, u64),
     Refused(Refusal),

@@ -10,7 +10,7 @@ use types::flags::FieldUpdateRule;
 use types::value::FieldUnit;
 
 // A read of a field, or a write of a value into it.
-#[derive(Drop)]
+#[derive(Clone, Copy)]
 pub struct FieldOp {
     pub write: bool,
     pub field: FieldUnit,
@@ -18,7 +18,7 @@ pub struct FieldOp {
 }
 
 // A load or a store of the unit of this number.
-#[derive(Drop)]
+#[derive(Clone, Copy)]
 pub enum Access {
     Load(u64),
     Store(u64),

@@ -73,7 +73,7 @@ fn is_outside(width: u64, offset: u64, length: u64, size: u64) -> bool
 }
 
 // What the checks answer: the access width of a field that is accepted, or the refusal.
-#[derive(Drop)]
+#[derive(Clone, Copy)]
 pub(crate) enum Checked {
     Width(u64),
     Refused(Refusal),

@@ -8,7 +8,7 @@ use crate::whole::UnitWritten;
 use types::refusal::Refusal;
 
 // What is held after an access; or that there is none left.
-#[derive(Drop)]
+#[derive(Clone, Copy)]
 pub enum Accessed {
     Held(u64),
     Over,

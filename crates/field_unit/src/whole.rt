@@ -12,14 +12,14 @@ use types::refusal::Refusal;
 use types::value::FieldUnit;
 
 // A read's value and how many loads it took.
-#[derive(Drop)]
+#[derive(Clone, Copy)]
 pub enum UnitRead {
     Value { value: u64, count: u64 },
     Refused(Refusal),
 }
 
 // How many loads and stores a write took.
-#[derive(Drop)]
+#[derive(Clone, Copy)]
 pub enum UnitWritten {
     Count(u64),
     Refused(Refusal),

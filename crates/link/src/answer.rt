@@ -19,7 +19,7 @@ use value::status::{StatusAnswer, StatusObject};
 // numbers of the types that a refusal carries. kind: the value's, by the number that a host's value has, 0 where there is no value.
 // count: the loads and stores made. value: an Integer, 0 or 1 of a Boolean, or how many bytes a Buffer or a String has.
 #[repr(C)]
-#[derive(Drop)]
+#[derive(Clone, Copy)]
 pub struct Answer {
     pub status: u8,
     pub present: u8,

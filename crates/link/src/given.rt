@@ -9,7 +9,7 @@ use types::value::{AmlType, AmlValue, FieldUnit, RegionSpace};
 // A value: number is an Integer's, and of a Boolean 0 for false, all else true; offset and length are a BufferField's and a FieldUnit's, in bits;
 // space and flags a FieldUnit's. A kind looks at its own fields alone. Bytes are lent beside the value.
 #[repr(C)]
-#[derive(Drop)]
+#[derive(Clone, Copy)]
 pub struct HostValue {
     pub kind: u8,
     pub space: u8,
@@ -79,7 +79,7 @@ pub(crate) fn is_type(number: u8) -> bool
     number <= 14
 }
 
-#[derive(Drop)]
+#[derive(Clone, Copy)]
 pub(crate) enum Given {
     Value(AmlValue),
     NoKind,

@@ -14,7 +14,7 @@ use types::refusal::Outcome;
 
 // busy, write: 0 or 1. space, flags, offset, length: its field. value: what it writes. made: its loads and stores so far. held: what its loads gave.
 #[repr(C)]
-#[derive(Drop)]
+#[derive(Clone, Copy)]
 pub struct HostTask {
     pub busy: u32,
     pub write: u16,
@@ -29,7 +29,7 @@ pub struct HostTask {
 
 // size: the region's length in bytes. holder: the task that has the lock, 4 for none.
 #[repr(C)]
-#[derive(Drop)]
+#[derive(Clone, Copy)]
 pub struct HostTable {
     pub size: u64,
     pub holder: u64,
@@ -38,7 +38,7 @@ pub struct HostTable {
 
 // The table after a call, and its answer.
 #[repr(C)]
-#[derive(Drop)]
+#[derive(Clone, Copy)]
 pub struct Called {
     pub table: HostTable,
     pub answer: Answer,

@@ -7,7 +7,7 @@ use types::flags::FieldFlags;
 use types::value::{FieldUnit, RegionSpace};
 
 // Where the tasks' fields lie: all on the same bytes, on other bits of one byte, or on bytes of their own.
-#[derive(Drop)]
+#[derive(Clone, Copy)]
 pub enum Place {
     Same,
     OneByte,

@@ -8,7 +8,7 @@ use std::num::wrapping_add_u64;
 use task::table::{StartAnswer, StepAnswer, Table};
 
 // The operations of tasks 0 to 2, and how many calls each takes: its start and its accesses; 0 for a task without one.
-#[derive(Drop)]
+#[derive(Clone, Copy)]
 pub struct Ops {
     pub op: [FieldOp; 3],
     pub calls: [u64; 3],
@@ -16,7 +16,7 @@ pub struct Ops {
 
 // stage: 0 to be started, 1 under way, 2 ended. The ended tasks in the order in which they finished, and what each answered.
 // met: the premise held at every moment. waits: steps refused because another task held the lock.
-#[derive(Drop)]
+#[derive(Clone, Copy)]
 pub struct Run {
     pub table: Table,
     pub stage: [u64; 3],

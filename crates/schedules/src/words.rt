@@ -12,7 +12,7 @@ const WORDS: [u64; 13] = [
 
 // Schedules run; those that meet the premise, and of them those that agree with whole calls; those that do not meet it, and of them
 // those that differ; steps refused because another task held the lock; schedules in which an operation was left over.
-#[derive(Drop)]
+#[derive(Clone, Copy)]
 pub struct Counts {
     pub run: u64,
     pub met: u64,

@@ -12,14 +12,14 @@ use types::refusal::Refusal;
 use types::value::AmlValue;
 
 // How many bytes of the input a job used, and the next place of the output.
-#[derive(Drop)]
+#[derive(Clone, Copy)]
 pub struct Step {
     pub used: usize,
     pub next: usize,
 }
 
 // An operand's line: a value, how many bytes it has, and how many the line has with its line feed.
-#[derive(Drop)]
+#[derive(Clone, Copy)]
 pub enum OperandLine {
     Is(AmlValue, usize, usize),
     Wrong,

@@ -5,7 +5,7 @@ ghost use Rattle.script.specs.Ops as Ops;
 use text::lines::begins_with;
 
 // The ops that answer a number.
-#[derive(Drop)]
+#[derive(Clone, Copy)]
 pub enum NumberOp {
     Add,
     And,
@@ -16,7 +16,7 @@ pub enum NumberOp {
     ToInteger,
 }
 
-#[derive(Drop)]
+#[derive(Clone, Copy)]
 pub enum Op {
     Number(NumberOp),
     Mid,
@@ -25,7 +25,7 @@ pub enum Op {
     Compare,
 }
 
-#[derive(Drop)]
+#[derive(Clone, Copy)]
 pub enum OpAnswer {
     Is(Op, usize),
     Unknown,

@@ -10,7 +10,7 @@ use text::lines::PairsAnswer;
 use types::value::AmlValue;
 
 // A value, and how many bytes it has; `-`; or neither.
-#[derive(Drop)]
+#[derive(Clone, Copy)]
 pub enum OperandAnswer {
     Is(AmlValue, usize),
     Unused,

@@ -12,7 +12,7 @@ use field_unit::whole::UnitWritten;
 use types::refusal::{Outcome, Refusal};
 
 // Whether a step was accepted; the task and the lock's holder after it, as they were where it was not; the answer.
-#[derive(Drop)]
+#[derive(Clone, Copy)]
 pub struct Moved {
     pub accepted: bool,
     pub task: Task,

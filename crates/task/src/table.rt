@@ -10,7 +10,7 @@ use types::refusal::{Outcome, Refusal};
 use types::value::{FieldUnit, RegionSpace};
 
 // A task: what it runs, how many accesses it has made, and what its loads hold for those to come.
-#[derive(Drop)]
+#[derive(Clone, Copy)]
 pub struct Task {
     pub busy: bool,
     pub op: FieldOp,
@@ -19,7 +19,7 @@ pub struct Task {
 }
 
 // The region's length, the task that holds the lock (4: none), the tasks.
-#[derive(Drop)]
+#[derive(Clone, Copy)]
 pub struct Table {
     pub size: u64,
     pub holder: u64,
@@ -27,26 +27,26 @@ pub struct Table {
 }
 
 // A new table, or one for no bytes beside a refusal.
-#[derive(Drop)]
+#[derive(Clone, Copy)]
 pub struct Made {
     pub table: Table,
     pub answer: Outcome,
 }
 
-#[derive(Drop)]
+#[derive(Clone, Copy)]
 pub enum StartAnswer {
     Count(u64),
     Refused(Refusal),
 }
 
-#[derive(Drop)]
+#[derive(Clone, Copy)]
 pub struct Started {
     pub table: Table,
     pub answer: StartAnswer,
 }
 
 // More accesses to come; a write's end; a read's end with its value.
-#[derive(Drop)]
+#[derive(Clone, Copy)]
 pub enum StepAnswer {
     More,
     Done,
@@ -54,7 +54,7 @@ pub enum StepAnswer {
     Refused(Refusal),
 }
 
-#[derive(Drop)]
+#[derive(Clone, Copy)]
 pub struct Stepped {
     pub table: Table,
     pub answer: StepAnswer,

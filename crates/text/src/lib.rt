@@ -8,7 +8,7 @@ pub mod written; // bytes, hex pairs, decimal numbers: what is written
 ghost use Rattle.std.specs.Prelude.{◌≡◌, ◌≤◌};
 ghost use Rattle.text.specs.Texts.{digit_of, number_of};
 
-#[derive(Drop)]
+#[derive(Clone, Copy)]
 pub enum Number {
     Is(u64),
     Bad,

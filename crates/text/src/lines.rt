@@ -6,14 +6,14 @@ ghost use Rattle.text.specs.Pairs.{pairs_of, are_pairs, bytes_of, filled, pairs_
 use crate::digit;
 
 // The length of a line without its line feed.
-#[derive(Drop)]
+#[derive(Clone, Copy)]
 pub enum LineAnswer {
     Is(usize),
     Missing,
 }
 
 // How many bytes of the output hex pairs take.
-#[derive(Drop)]
+#[derive(Clone, Copy)]
 pub enum PairsAnswer {
     Is(usize),
     Bad,

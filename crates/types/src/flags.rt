@@ -4,7 +4,7 @@ ghost use Rattle.types.specs.Flags.{access_type, lock_rule, update_rule, access_
 
 use crate::refusal::Refusal;
 
-#[derive(Drop)]
+#[derive(Clone, Copy)]
 pub enum FieldAccessType {
     Any,
     Byte,
@@ -14,23 +14,23 @@ pub enum FieldAccessType {
     Buffer,
 }
 
-#[derive(Drop)]
+#[derive(Clone, Copy)]
 pub enum FieldUpdateRule {
     Preserve,
     WriteAsOnes,
     WriteAsZeros,
 }
 
-#[derive(Drop)]
+#[derive(Clone, Copy)]
 pub struct FieldFlags(pub u8);
 
-#[derive(Drop)]
+#[derive(Clone, Copy)]
 pub enum AccessTypeAnswer {
     Is(FieldAccessType),
     Refused(Refusal),
 }
 
-#[derive(Drop)]
+#[derive(Clone, Copy)]
 pub enum UpdateRuleAnswer {
     Is(FieldUpdateRule),
     Refused(Refusal),

@@ -4,7 +4,7 @@ ghost use Rattle.types.specs.Refusals.{number_of, types_of};
 
 use crate::value::AmlType;
 
-#[derive(Drop)]
+#[derive(Clone, Copy)]
 pub enum Refusal {
     IncompatibleValueConversion { current: AmlType, target: AmlType },
     BufferFieldIndexesOutOfBounds,
@@ -33,7 +33,7 @@ pub enum Refusal {
 }
 
 // The types that a refusal carries.
-#[derive(Drop)]
+#[derive(Clone, Copy)]
 pub enum Types {
     Nothing,
     Met(AmlType),
@@ -41,7 +41,7 @@ pub enum Types {
 }
 
 // What a call that gives no value answers.
-#[derive(Drop)]
+#[derive(Clone, Copy)]
 pub enum Outcome {
     Done,
     Refused(Refusal),

@@ -5,7 +5,7 @@ ghost use Rattle.types.specs.Values.{type_of, type_number_of};
 use crate::flags::FieldFlags;
 
 // ACPI's address spaces.
-#[derive(Drop)]
+#[derive(Clone, Copy)]
 pub enum RegionSpace {
     SystemMemory,
     SystemIo,
@@ -20,7 +20,7 @@ pub enum RegionSpace {
     OemDefined(u8),
 }
 
-#[derive(Drop)]
+#[derive(Clone, Copy)]
 pub enum AmlType {
     Buffer,
     BufferField,
@@ -38,7 +38,7 @@ pub enum AmlType {
 }
 
 // A field of a region: offset and length in bits.
-#[derive(Drop)]
+#[derive(Clone, Copy)]
 pub struct FieldUnit {
     pub space: RegionSpace,
     pub flags: FieldFlags,
@@ -46,7 +46,7 @@ pub struct FieldUnit {
     pub length: u64,
 }
 
-#[derive(Drop)]
+#[derive(Clone, Copy)]
 pub enum AmlValue {
     Boolean(bool),
     Integer(u64),

@@ -11,27 +11,27 @@ use field_unit::whole::{UnitRead, read_field};
 use types::refusal::{Outcome, Refusal};
 use types::value::{AmlType, AmlValue, FieldUnit, type_number, type_of};
 
-#[derive(Drop)]
+#[derive(Clone, Copy)]
 pub enum IntegerAnswer {
     Integer(u64),
     Refused(Refusal),
 }
 
-#[derive(Drop)]
+#[derive(Clone, Copy)]
 pub enum BoolAnswer {
     Bool(bool),
     Refused(Refusal),
 }
 
 // How many bytes of the output a buffer or a string takes.
-#[derive(Drop)]
+#[derive(Clone, Copy)]
 pub enum LengthAnswer {
     Length(usize),
     Refused(Refusal),
 }
 
 // Same: the value has the type already.
-#[derive(Drop)]
+#[derive(Clone, Copy)]
 pub enum TypeAnswer {
     Same,
     Integer(u64),

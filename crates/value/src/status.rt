@@ -5,7 +5,7 @@ ghost use Rattle.value.specs.Status.{as_status, default_status};
 use types::refusal::Refusal;
 use types::value::AmlValue;
 
-#[derive(Drop)]
+#[derive(Clone, Copy)]
 pub struct StatusObject {
     pub present: bool,
     pub enabled: bool,
@@ -14,7 +14,7 @@ pub struct StatusObject {
     pub battery_present: bool,
 }
 
-#[derive(Drop)]
+#[derive(Clone, Copy)]
 pub enum StatusAnswer {
     Status(StatusObject),
     Refused(Refusal),

@@ -77,7 +77,7 @@ fn whole_write(op: FieldOp, region: &mut [u8], text: &mut [u8; 232]) {
 
 // Where an operation stands after some of its accesses: how many were made, what is held, the refusal's number, and
 // whether no more is to be asked.
-#[derive(Drop)]
+#[derive(Clone, Copy)]
 struct Progress {
     made: u64,
     held: u64,
