@@ -31,7 +31,7 @@ partly_write p u e = go p.write (keeps p.rule && not (covered p u)) e
 
 pub partly_overwrite : (p : Plan) (u : ℕ) → keeps p.rule ≡ false → partly p u ≡ false
 unfolding partly
-partly_overwrite p u e = ap (λ (t : Bool). p.write && (t && not (covered p u))) e ∙ mathlib.Core.Bool.and_false p.write
+partly_overwrite p u e = ap (λ (t : Bool). p.write && (t && not (covered p u))) e ∙ mathlib.Core.Bool.and-false p.write
 
 pub partly_covered : (p : Plan) (u : ℕ) → covered p u ≡ true → partly p u ≡ false
 unfolding partly
@@ -59,7 +59,7 @@ covered_not_below p u h = ap (λ (t : Bool). t && leb (base p u + p.width) (p.of
 pub covered_not_above : (p : Plan) (u : ℕ) → p.offset + p.size < base p u + p.width → covered p u ≡ false
 covered_not_above p u h =
     ap (λ (t : Bool). leb p.offset (base p u) && t) (lt-leb (base p u + p.width) (p.offset + p.size) h)
-    ∙ mathlib.Core.Bool.and_false (leb p.offset (base p u))
+    ∙ mathlib.Core.Bool.and-false (leb p.offset (base p u))
 
 pub covered_between : (p : Plan) (u : ℕ) → p.offset ≤ base p u → base p u + p.width ≤ p.offset + p.size → covered p u ≡ true
 covered_between p u h g =
