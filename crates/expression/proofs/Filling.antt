@@ -5,7 +5,7 @@ use lib.ListN.{length-replicate}
 use lib.Seq.{drop-append-add, drop-length, take-append_seam, drop-append_seam}
 use borrow.Rule.Slice.PartMut.{put_mid}
 use Rattle.value.specs.Conversions.{into}
-use Rattle.value.proofs.Giving.{into_length, copied as copy-into}
+use Rattle.value.proofs.Giving.{into_length, copied as copy_into}
 
 -- i bytes of one value, then what stood behind them
 pub filled_length : (d : List ℕ) (v i : ℕ) → i ≤ length d → length (replicate i v ++ drop i d) ≡ length d
@@ -28,8 +28,8 @@ kept l out p h =
     ∙ drop-drop (p - length l) (length l) out
     ∙ ap (λ (k : ℕ). drop k out) e
 
-pub copied : (l out t : List ℕ) → t ≡ take (length l) l ++ drop (length l) out → t ≡ into l out
-copied l out t e = e ∙ copy-into l out
+pub copied : (l out t : List ℕ) → length l ≤ length out → t ≡ take (min (length l) (length out)) l ++ drop (min (length l) (length out)) out → t ≡ into l out
+copied l out t h e = e ∙ copy_into l out h
 
 -- the bytes from the end of the first list on become ys: the first list, then ys, then what stood there
 module _ (l out t : List ℕ) (e : t ≡ into l out) where

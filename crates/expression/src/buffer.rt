@@ -3,6 +3,7 @@ ghost use Rattle.std.specs.Prelude.{◌≡◌, length, replicate};
 ghost use Rattle.value.specs.Conversions.{given};
 ghost use Rattle.expression.specs.Build.{build_buffer};
 
+use bits::bytes;
 use crate::answer::integer_refusal;
 use types::refusal::Refusal;
 use types::value::AmlValue;

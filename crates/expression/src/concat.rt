@@ -7,6 +7,7 @@ ghost use Rattle.types.specs.declared.value.AmlType.TheVariants as T;
 ghost use Rattle.value.specs.Lengths.{length_of};
 ghost use Rattle.expression.specs.Concat as C;
 
+use bits::bytes;
 use crate::answer::length_refusal;
 use crate::number::{Operands, both_operands};
 use types::refusal::Refusal;

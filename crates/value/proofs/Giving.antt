@@ -2,7 +2,7 @@
 -- Assumes nothing.
 use mathlib.Core.Path.{◌≡◌, refl, sym, ap, ◌∙◌}
 use mathlib.Core.List.{List, ◌++◌}
-use Prim.Native.Nat.{ℕ, ◌+◌, ◌-◌, ◌*◌, ◌≤◌, ◌<◌}
+use Prim.Native.Nat.{ℕ, ◌+◌, ◌-◌, ◌*◌, ◌≤◌, ◌<◌, min}
 use native.Mathlib.Omega.{arith}
 use lib.ListN.{length, get_or, take, drop, length-append, length-drop, get_or-append}
 use lib.Seq.{take-length, ext_get_or, get_or-append-add, get_or-drop}
@@ -32,8 +32,10 @@ module _ (l out : List ℕ) where
       ∙ get_or-drop (length l) out (i - length l) 0
       ∙ ap (λ (k : ℕ). get_or out k 0) e
 
-  pub copied : take (length l) l ++ drop (length l) out ≡ into l out
-  copied = ap (λ (x : List ℕ). x ++ drop (length l) out) (take-length l)
+  pub copied : length l ≤ length out → take (min (length l) (length out)) l ++ drop (min (length l) (length out)) out ≡ into l out
+  copied h =
+      let e : min (length l) (length out) ≡ length l = omega arith in
+      rw e (ap (λ (x : List ℕ). x ++ drop (length l) out) (take-length l))
 
 -- whole bytes of bits written over the front are those bytes given there
 pub bits_into : (out : List ℕ) (m : ℕ) (g : ℕ → ℕ) → ((j : ℕ) → get_or out j 0 < 256) → m ≤ length out

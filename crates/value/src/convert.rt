@@ -6,6 +6,7 @@ ghost use Rattle.types.specs.declared.value.AmlType.TheVariants as T;
 ghost use Rattle.value.specs.Conversions.{no as noConversion, truth_number, buffer_field_content, field_unit_content, content_integer, content_buffer, unit_refusal, these, given, giving, given_type, integer_type, length_type, as_integer, as_bool, as_buffer, as_string, same_type, as_type};
 ghost use Rattle.value.specs.Lengths.{length_of, buffer_length, string_length};
 
+use bits::bytes;
 use buffer_field::check_buffer_field;
 use field_unit::whole::{UnitRead, read_field};
 use types::refusal::{Outcome, Refusal};
