@@ -1,6 +1,6 @@
 -- Bytes at the front of an output, one piece behind the other: what was there stays behind the last piece.
 -- Assumes nothing.
-use Rattle.std.proofs.Common.{◌≡◌, ℕ, ◌+◌, ◌-◌, ◌≤◌, List, [], ◌++◌, length, take, drop, replicate, sym, ap, ◌∙◌, append_assoc, append-nil, arith, length-append, length-drop, take_all, drop-drop}
+use Rattle.std.proofs.Common.{◌≡◌, ℕ, ◌+◌, ◌-◌, ◌≤◌, List, [], ◌++◌, length, take, drop, min, replicate, sym, ap, ◌∙◌, append_assoc, append-nil, arith, length-append, length-drop, take_all, drop-drop}
 use lib.ListN.{length-replicate}
 use lib.Seq.{drop-append-add, drop-length, take-append_seam, drop-append_seam}
 use borrow.Rule.Slice.PartMut.{put_mid}

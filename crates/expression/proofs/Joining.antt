@@ -1,6 +1,6 @@
 -- Concat: two texts, buffers or numbers one behind the other at the front of the output, or the first refusal; 20 last.
 -- Assumes nothing.
-use Rattle.std.proofs.Common.{◌≡◌, ℕ, ◌+◌, ◌-◌, ◌<◌, ◌≤◌, Bool, List, [], ◌∷◌, ◌++◌, length, get_or, take, drop, sym, refl, ap, ◌∙◌, arith, length-append, length-drop, get_or-drop}
+use Rattle.std.proofs.Common.{◌≡◌, ℕ, ◌+◌, ◌-◌, ◌<◌, ◌≤◌, Bool, List, [], ◌∷◌, ◌++◌, length, get_or, take, drop, min, sym, refl, ap, ◌∙◌, arith, length-append, length-drop, get_or-drop}
 use denote.Enum.Declared.{tag_of}
 use types.Run.{miss}
 use borrow.Enum.Refused.{Among, opened}
@@ -143,12 +143,13 @@ module _ (l : List ℕ) (v : AmlValue) (s out : List ℕ) (h : length s ≤ 6553
     pub buffers_shorter : length out - length l < n → concatenated (C.Refused R.OutputTooShort) out ≡ delivered (join_buffers l (to_buffer (held_by v s))) out
     buffers_shorter k = rw (buffers, no_room_right l right out (omega (arith, long)))
 
-    pub buffers_done : length l ≤ length out → n ≤ length out - length l → (at : ℕ) → at ≡ length l
-        → (t : List ℕ) → t ≡ take (length l) l ++ drop (length l) out
+    pub buffers_done : length l ≤ length out → n ≤ length out - length l → (at : ℕ) → at ≡ min (length l) (length out)
+        → (t : List ℕ) → t ≡ take (min (length l) (length out)) l ++ drop (min (length l) (length out)) out
         → (r : LengthAnswer) (ys : List ℕ) → given r ys ≡ as_buffer v s (take (length t - at) (drop at t))
         → concatenated (C.Buffer (at + n)) (put_mid at (length t - at) t ys) ≡ delivered (join_buffers l (to_buffer (held_by v s))) out
-    buffers_done k g at f t p r ys q =
-        let i = copied l out t p in
+    buffers_done k g at c t p r ys q =
+        let f : at ≡ length l = omega (arith, c) in
+        let i = copied l out t k p in
         let b = take (length t - at) (drop at t) in
         let w : length right ≤ length b = rw (rest l right out t i k at f) (omega (arith, length-drop at out, long)) in
         let y : given r ys ≡ given (LA.Length (length right)) (into right b) =

@@ -1,6 +1,6 @@
 -- The names of the kinds: their lengths, and what stands at the front of the output when one is copied there. Each is true by its line in the definition.
 -- Assumes nothing.
-use Rattle.std.proofs.Common.{◌≡◌, ℕ, ◌≤◌, List, [], ◌∷◌, ◌++◌, length, take, drop, sym, refl, ap, ◌∙◌}
+use Rattle.std.proofs.Common.{◌≡◌, ℕ, ◌≤◌, List, [], ◌∷◌, ◌++◌, length, take, drop, min, sym, refl, ap, ◌∙◌}
 use denote.Enum.Declared.{tag_of}
 use types.Run.{miss}
 use borrow.Enum.Refused.{Among, opened}
@@ -46,8 +46,9 @@ no_name_put k out o = rw (no_name k o)
 pub name_fits : (k kind : AmlType) (n : ℕ) → kind ≡ k → length (name_of kind) ≤ n → length (name_of k) ≤ n
 name_fits k kind n e h = rw e at h
 
-pub name_put : (k kind : AmlType) (out t : List ℕ) → kind ≡ k → t ≡ take (length (name_of k)) (name_of k) ++ drop (length (name_of k)) out → t ≡ into (name_of kind) out
-name_put k kind out t e c = rw e (copied (name_of k) out t c)
+pub name_put : (k kind : AmlType) (out t : List ℕ) → kind ≡ k → length (name_of kind) ≤ length out
+    → t ≡ take (min (length (name_of k)) (length out)) (name_of k) ++ drop (min (length (name_of k)) (length out)) out → t ≡ into (name_of kind) out
+name_put k kind out t e h c = rw e (copied (name_of k) out t (name_fits k kind (length out) e h) c)
 
 -- ---- a value's string or name
 
@@ -106,5 +107,6 @@ module _ (v : AmlValue) (s out : List ℕ) (e : v ≡ Val.String) where
   pub string_fits : length (text_bytes (text_of (held_by v s))) ≤ length out → length s ≤ length out
   string_fits h = rw e at h
 
-  pub string_put : (t : List ℕ) → t ≡ take (length s) s ++ drop (length s) out → t ≡ into (text_bytes (text_of (held_by v s))) out
-  string_put t c = rw e (copied s out t c)
+  pub string_put : length (text_bytes (text_of (held_by v s))) ≤ length out
+      → (t : List ℕ) → t ≡ take (min (length s) (length out)) s ++ drop (min (length s) (length out)) out → t ≡ into (text_bytes (text_of (held_by v s))) out
+  string_put h t c = rw e (copied s out t (string_fits h) c)

@@ -1,0 +1,16 @@
+-- `concat::concat_buffers` meets its contract: what to buffer refuses, 20, or both one behind the other.
+-- Assumes nothing.
+use Rattle.expression.proofs.Joining.{buffers_refused, buffers_short, buffers_shorter, buffers_done}
+use Rattle.expression.proofs.concat.concat_buffers.Goals as goal
+
+pub returns-in_default : goal.returns-in_default
+returns-in_default c = search buffers_refused
+
+pub returns-then-out-left_bytes : goal.returns-then-out-left_bytes
+returns-then-out-left_bytes c = search buffers_short
+
+pub returns-then-out-left_bytes-2 : goal.returns-then-out-left_bytes-2
+returns-then-out-left_bytes-2 c = search buffers_shorter
+
+pub returns : goal.returns
+returns c = buffers_done c.args.left_bytes.now c.args.right c.args.right_bytes.now c.args.out.now c.requires _ c.buffer_length-counted.ensures _ c.in-Length.is c.if-out-left_bytes.false c.if-out-left_bytes-2.false _ c.copy-at.ensures.count _ c.copy-at.ensures.bytes _ _ c.as_buffer.ensures
