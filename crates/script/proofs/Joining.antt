@@ -34,7 +34,8 @@ use Rattle.value.proofs.Fields.{content_outside, content_number, content_bytes, 
 use Rattle.value.proofs.Giving.{giving_short, giving_these, giving_none}
 use Rattle.expression.specs.Numbers.{and_then}
 use Rattle.expression.specs.Mid.{source, mid, mid_outcome, mid_part}
-use Rattle.expression.specs.Concat.{Joined, a_buffer, a_string, refused, number_bytes, join_buffers, join_texts, joined, text_of, text_bytes, Concatenated, concatenated, delivered, concat, body, ended, join_resources, concat_res}
+use Rattle.types.specs.declared.value.AmlType.TheVariants as T
+use Rattle.expression.specs.Concat.{name_of, Joined, a_buffer, a_string, refused, number_bytes, join_buffers, join_texts, joined, text_of, text_bytes, Concatenated, concatenated, delivered, concat, body, ended, join_resources, concat_res}
 use Rattle.expression.specs.declared.concat.ConcatAnswer.{ConcatAnswer}
 use Rattle.expression.specs.declared.concat.ConcatAnswer.TheVariants as C
 use Rattle.expression.proofs.Lent.{both_short}
@@ -113,16 +114,16 @@ module _ (k m : ℕ) (h : 18 ≤ k) (g : 18 ≤ m) where
   joined_most (Val.Integer x) s b t p q = numbers_most x (to_integer (held_by b t))
   joined_most Val.Buffer s b t p q = let l = buffer_most b t in buffers_most s (to_buffer (held_by b t)) p (omega arith)
   joined_most Val.String s b t p q = texts_most s (text_of (held_by b t)) p (text_most m g b t q)
-  joined_most (Val.BufferField o n) s b t p q = texts_most _ (text_of (held_by b t)) (omega arith) (text_most m g b t q)
-  joined_most (Val.Field f) s b t p q = texts_most _ (text_of (held_by b t)) (omega arith) (text_most m g b t q)
-  joined_most Val.OpRegion s b t p q = texts_most _ (text_of (held_by b t)) (omega arith) (text_most m g b t q)
-  joined_most Val.Device s b t p q = texts_most _ (text_of (held_by b t)) (omega arith) (text_most m g b t q)
-  joined_most Val.Method s b t p q = texts_most _ (text_of (held_by b t)) (omega arith) (text_most m g b t q)
-  joined_most Val.Processor s b t p q = texts_most _ (text_of (held_by b t)) (omega arith) (text_most m g b t q)
-  joined_most Val.Mutex s b t p q = texts_most _ (text_of (held_by b t)) (omega arith) (text_most m g b t q)
-  joined_most Val.Package s b t p q = texts_most _ (text_of (held_by b t)) (omega arith) (text_most m g b t q)
-  joined_most Val.PowerResource s b t p q = texts_most _ (text_of (held_by b t)) (omega arith) (text_most m g b t q)
-  joined_most Val.ThermalZone s b t p q = texts_most _ (text_of (held_by b t)) (omega arith) (text_most m g b t q)
+  joined_most (Val.BufferField o n) s b t p q = texts_most (name_of T.BufferField) (text_of (held_by b t)) (omega arith) (text_most m g b t q)
+  joined_most (Val.Field f) s b t p q = texts_most (name_of T.FieldUnit) (text_of (held_by b t)) (omega arith) (text_most m g b t q)
+  joined_most Val.OpRegion s b t p q = texts_most (name_of T.OpRegion) (text_of (held_by b t)) (omega arith) (text_most m g b t q)
+  joined_most Val.Device s b t p q = texts_most (name_of T.Device) (text_of (held_by b t)) (omega arith) (text_most m g b t q)
+  joined_most Val.Method s b t p q = texts_most (name_of T.Method) (text_of (held_by b t)) (omega arith) (text_most m g b t q)
+  joined_most Val.Processor s b t p q = texts_most (name_of T.Processor) (text_of (held_by b t)) (omega arith) (text_most m g b t q)
+  joined_most Val.Mutex s b t p q = texts_most (name_of T.Mutex) (text_of (held_by b t)) (omega arith) (text_most m g b t q)
+  joined_most Val.Package s b t p q = texts_most (name_of T.Package) (text_of (held_by b t)) (omega arith) (text_most m g b t q)
+  joined_most Val.PowerResource s b t p q = texts_most (name_of T.PowerResource) (text_of (held_by b t)) (omega arith) (text_most m g b t q)
+  joined_most Val.ThermalZone s b t p q = texts_most (name_of T.ThermalZone) (text_of (held_by b t)) (omega arith) (text_most m g b t q)
 
   judged_most : (c : Bool) (l r : List ℕ) → length l ≤ k → length r ≤ m
       → length (text_bytes (judged (first_of ((c, R.ResourceDescriptorTooShort) ∷ [])) (these (ended (body l ++ body r))) none)) ≤ k + m

@@ -1,0 +1,28 @@
+-- `answer::put_concat_res` meets its contract: what is at the front of the room, or what was refused.
+-- Assumes nothing.
+use Rattle.script.proofs.Joining.{resources_bytes, resources_refused}
+use lib.ListN.{length-take}
+use native.Mathlib.Omega.{arith}
+use mathlib.Core.Path.{refl}
+use borrow.Author.Rules.{rules}
+use Rattle.script.proofs.answer.put_concat_res.Goals as goal
+
+pub slice_bounds-room-end : goal.slice_bounds-room-end
+slice_bounds-room-end c = (resources_bytes _ _ _ _ c.requires.1 c.requires.2 _ _ refl _ c.def_concat_res-answer.ensures _ c.in-Length.is).2
+
+pub slice_bounds-put_hex-end-in-Length : goal.slice_bounds-put_hex-end-in-Length
+slice_bounds-put_hex-end-in-Length c =
+    let i = resources_bytes _ _ _ _ c.requires.1 c.requires.2 _ _ refl _ c.def_concat_res-answer.ensures _ c.in-Length.is in
+    simp length-take (omega arith)
+
+pub put_hex-requires : goal.put_hex-requires
+put_hex-requires c =
+    let i = resources_bytes _ _ _ _ c.requires.1 c.requires.2 _ _ refl _ c.def_concat_res-answer.ensures _ c.in-Length.is in
+    (c.requires.0, search rules, simp length-take (omega arith))
+
+pub returns-in-Length : goal.returns-in-Length
+returns-in-Length c = rw (resources_bytes _ _ _ _ c.requires.1 c.requires.2 _ _ refl _ c.def_concat_res-answer.ensures _ c.in-Length.is).0 c.put_hex.ensures
+
+pub returns-in-Refused : goal.returns-in-Refused
+returns-in-Refused c = rw (resources_refused _ _ _ _ c.requires.1 c.requires.2 _ _ refl _ c.def_concat_res-answer.ensures _ c.in-Refused.is) c.put_refusal.ensures
+
