@@ -1,0 +1,17 @@
+-- `link::conversions::aml_as_string` meets its contract: the numbers of what `as_string` answers, and its output; nothing of a kind that there is not.
+-- Assumes nothing.
+use mathlib.Core.Path.{ap, ◌∙◌}
+use Rattle.value.specs.Conversions.{Given}
+use Rattle.link.specs.Answers.{bytes_answer}
+use Rattle.link.proofs.Known.{no_value, is_value}
+use Rattle.link.proofs.conversions.aml_as_string.Goals as goal
+
+pub returns-in_default : goal.returns-in_default
+returns-in_default c = (search no_value, search no_value)
+
+pub returns : goal.returns
+returns c =
+    let e = c.as_string.ensures in
+    let answered = c.bytes_answer.ensures ∙ ap (λ (x : Given). bytes_answer 2 x.answer) e in
+    let after = ap (λ (x : Given). x.out) e in
+    (search is_value, search is_value)
