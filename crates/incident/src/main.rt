@@ -2,20 +2,16 @@
 #![tactic(auto)]
 
 use field_unit::whole::{UnitWritten, write_field};
-use libc::STDOUT_FILENO;
+use std::io;
 use types::flags::FieldFlags;
 use types::refusal::number;
 use types::value::{FieldUnit, RegionSpace};
 
-fn show(title: &[u8], low: u8, high: u8) {
-    io::write_all(STDOUT_FILENO, title);
-    io::print_hex(STDOUT_FILENO, low as u64, 2);
-    io::write_all(STDOUT_FILENO, b" ");
-    io::print_hex(STDOUT_FILENO, high as u64, 2);
-    io::write_all(STDOUT_FILENO, b"\n");
+fn show(rt: &impl Print, title: &str, low: u8, high: u8) -> io::Result<()> {
+    println!(rt; "{title}{low:02x} {high:02x}")
 }
 
-fn main() {
+fn main(rt: HostRuntime) -> io::Result<()> {
     let mut region = [255u8, 255u8];
     let fill_count = FieldUnit {
         space: RegionSpace::SystemMemory,
@@ -23,22 +19,15 @@ fn main() {
         offset: 0,
         length: 12,
     };
-    show(b"record before   ", region[0], region[1]);
-    io::write_all(
-        STDOUT_FILENO,
-        b"write           0x123 into 12 bits at bit 0, word access, Preserve\n",
-    );
+    show(&rt, "record before   ", region[0], region[1])?;
+    println!(rt; "write           0x123 into 12 bits at bit 0, word access, Preserve")?;
     let answer = write_field(&mut region, fill_count, 0x123);
-    show(b"record after    ", region[0], region[1]);
+    show(&rt, "record after    ", region[0], region[1])?;
     match answer {
-        UnitWritten::Count(n) => {
-            io::write_all(STDOUT_FILENO, b"accesses        ");
-            io::print_decimal(STDOUT_FILENO, n);
-        }
+        UnitWritten::Count(n) => println!(rt; "accesses        {n}"),
         UnitWritten::Refused(r) => {
-            io::write_all(STDOUT_FILENO, b"refused         ");
-            io::print_decimal(STDOUT_FILENO, number(r) as u64);
+            let n = number(r);
+            println!(rt; "refused         {n}")
         }
     }
-    io::write_all(STDOUT_FILENO, b"\n");
 }

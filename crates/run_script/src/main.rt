@@ -2,22 +2,33 @@
 // 65,537 bytes are enough to know that an input is too long; 589,860 are room for any output (script/proofs/Sizes, never_short).
 #![tactic(auto)]
 
-use libc::{STDIN_FILENO, STDOUT_FILENO};
+use std::io::{self, Read, Write};
 use value::convert::LengthAnswer;
 
-fn main() {
-    let mut input = [0u8; 65537];
-    let n = io::read_full(STDIN_FILENO, &mut input);
+fn main(rt: HostRuntime) -> io::Result<()> {
+    let mut text = [0u8; 65537];
     let mut out = [0u8; 589860];
-    if let LengthAnswer::Length(m) = script::script(&input[..n], &mut out) {
-        write_first(&out, m);
+    answer(&mut rt.stdin(), &mut rt.stdout(), &mut text, &mut out)
+}
+
+// The whole input is read into text, and its answers are put together in out.
+fn answer(
+    input: &mut impl Read,
+    output: &mut impl Write,
+    text: &mut [u8; 65537],
+    out: &mut [u8; 589860],
+) -> io::Result<()> {
+    let n = input::read_full(input, text)?;
+    if let LengthAnswer::Length(m) = script::script(&text[..n], out) {
+        return write_first(output, out, m);
     }
+    Ok(())
 }
 
 // The first n bytes.
-fn write_first(out: &[u8], n: usize) -> bool {
+fn write_first(output: &mut impl Write, out: &[u8], n: usize) -> io::Result<()> {
     if out.len() < n {
-        return false;
+        return Ok(());
     }
-    io::write_all(STDOUT_FILENO, &out[..n])
+    output.write_all(&out[..n])
 }
