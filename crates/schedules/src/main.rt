@@ -14,7 +14,7 @@ use crate::words::{Counts, all, none, sum};
 use field_unit::access::FieldOp;
 use field_unit::next::count_accesses;
 use field_unit::whole::UnitWritten;
-use libc::STDOUT_FILENO;
+use std::io;
 use std::num::wrapping_add_u64;
 
 // How many calls an operation takes: its start and its accesses.
@@ -157,54 +157,43 @@ fn triples(place: Place, locks: u8) -> Counts {
     counts
 }
 
-fn put(text: &[u8]) {
-    io::write_all(STDOUT_FILENO, text);
-}
-
-fn put_number(text: &[u8], n: u64) {
-    put(text);
-    io::print_decimal(STDOUT_FILENO, n);
-}
-
-fn show(title: &[u8], c: Counts) {
-    put(title);
-    put_number(b": schedules ", c.run);
-    put_number(b"; meet the premise ", c.met);
-    put_number(b", agree ", c.agree);
-    put_number(b"; do not meet it ", c.unmet);
-    put_number(b", differ ", c.differ);
-    put_number(b"; waits ", c.waits);
-    put_number(b", left over ", c.left);
-    put(b"\n");
+fn show(rt: &impl Print, title: &str, c: Counts) -> io::Result<()> {
+    print!(rt;
+        "{title}: schedules {}; meet the premise {}, agree {}",
+        c.run, c.met, c.agree
+    )?;
+    print!(rt; "; do not meet it {}, differ {}", c.unmet, c.differ)?;
+    println!(rt; "; waits {}, left over {}", c.waits, c.left)
 }
 
 // Two tasks, then three, with the same fields and locks.
-fn group(title: &[u8], place: Place, locks: u8) -> Counts {
+fn group(rt: &impl Print, title: &str, place: Place, locks: u8) -> io::Result<Counts> {
     let two = pairs(place, locks);
-    put(b"two tasks, ");
-    show(title, two);
+    print!(rt; "two tasks, ")?;
+    show(rt, title, two)?;
     let three = triples(place, locks);
-    put(b"three tasks, ");
-    show(title, three);
-    sum(two, three)
+    print!(rt; "three tasks, ")?;
+    show(rt, title, three)?;
+    Ok(sum(two, three))
 }
 
-fn main() {
-    let a = group(b"same bytes, no lock rule", Place::Same, 0);
-    let b = group(b"same bytes, lock rule of the first", Place::Same, 1);
-    let c = group(b"same bytes, lock rule of all", Place::Same, 2);
-    let d = group(b"bits of one byte, no lock rule", Place::OneByte, 0);
+fn main(rt: HostRuntime) -> io::Result<()> {
+    let a = group(&rt, "same bytes, no lock rule", Place::Same, 0)?;
+    let b = group(&rt, "same bytes, lock rule of the first", Place::Same, 1)?;
+    let c = group(&rt, "same bytes, lock rule of all", Place::Same, 2)?;
+    let d = group(&rt, "bits of one byte, no lock rule", Place::OneByte, 0)?;
     let e = group(
-        b"bits of one byte, lock rule of the first",
+        &rt,
+        "bits of one byte, lock rule of the first",
         Place::OneByte,
         1,
-    );
-    let f = group(b"bits of one byte, lock rule of all", Place::OneByte, 2);
-    let g = group(b"bytes apart, no lock rule", Place::Apart, 0);
-    let h = group(b"bytes apart, lock rule of the first", Place::Apart, 1);
-    let i = group(b"bytes apart, lock rule of all", Place::Apart, 2);
+    )?;
+    let f = group(&rt, "bits of one byte, lock rule of all", Place::OneByte, 2)?;
+    let g = group(&rt, "bytes apart, no lock rule", Place::Apart, 0)?;
+    let h = group(&rt, "bytes apart, lock rule of the first", Place::Apart, 1)?;
+    let i = group(&rt, "bytes apart, lock rule of all", Place::Apart, 2)?;
     let same = sum(a, sum(b, c));
     let one = sum(d, sum(e, f));
     let apart = sum(g, sum(h, i));
-    show(b"all", sum(same, sum(one, apart)));
+    show(&rt, "all", sum(same, sum(one, apart)))
 }
