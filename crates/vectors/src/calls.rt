@@ -1,6 +1,5 @@
 // A job's call: what is lent with it, and what is told of it.
-ghost use Rattle.std.specs.Prelude.{◌≤◌};
-ghost use Rattle.io.specs.Counts.{IsPrefixLen};
+ghost use Rattle.std.specs.Prelude.{◌≤◌, length};
 
 use crate::lent::{fill, fill_out, tell};
 use crate::lines::{byte, half};
@@ -13,9 +12,9 @@ const MID: u8 = 25;
 // The length in these columns, cut to the bytes there are.
 fn length(line: &[u8; 496], at: usize, bytes: &[u8]) -> usize
     requires { at ≤ 488 }
-    ensures { IsPrefixLen result bytes.now }
+    ensures { result ≤ length bytes.now }
 {
-    io::count(half(line, at) as isize, bytes)
+    bytes.len().min(half(line, at) as usize)
 }
 
 // The operand whose bytes are lent second: the steps of a field unit go over the same region once more.

@@ -11,39 +11,56 @@ mod operators; // the operators
 mod told; // the columns of an answer
 mod values; // conversions, status, ToInteger
 
-use libc::{STDIN_FILENO, STDOUT_FILENO};
+use std::io::{self, Read, Write};
 
 // The output holds what the longest Concat gives.
-fn main() {
+fn main(rt: HostRuntime) -> io::Result<()> {
     let mut first = [0u8; 65544];
     let mut second = [0u8; 65544];
     let mut third = [0u8; 65544];
     let mut out = [0u8; 131088];
-    answer_all(&mut first, &mut second, &mut third, &mut out);
+    answer_all(
+        &mut rt.stdin(),
+        &mut rt.stdout(),
+        &mut first,
+        &mut second,
+        &mut third,
+        &mut out,
+    )
 }
 
 // A line that is not whole ends the run; so does the ten millionth.
-fn answer_all(first: &mut [u8], second: &mut [u8], third: &mut [u8], out: &mut [u8]) {
-    let mut left: u64 = 10_000_000;
-    while 0 < left {
-        if !answer_next(first, second, third, out) {
-            return;
+fn answer_all(
+    input: &mut impl Read,
+    output: &mut impl Write,
+    first: &mut [u8],
+    second: &mut [u8],
+    third: &mut [u8],
+    out: &mut [u8],
+) -> io::Result<()> {
+    for _ in 0..10_000_000 {
+        if !answer_next(input, output, first, second, third, out)? {
+            break;
         }
-        left -= 1;
     }
+    Ok(())
 }
 
 // Is there another line, and was it answered?
-fn answer_next(first: &mut [u8], second: &mut [u8], third: &mut [u8], out: &mut [u8]) -> bool {
+fn answer_next(
+    input: &mut impl Read,
+    output: &mut impl Write,
+    first: &mut [u8],
+    second: &mut [u8],
+    third: &mut [u8],
+    out: &mut [u8],
+) -> io::Result<bool> {
     let mut line = [b'0'; 496];
-    if io::read_full(STDIN_FILENO, &mut line) < 496 {
-        return false;
+    if input::read_full(input, &mut line)? < 496 {
+        return Ok(false);
     }
     let mut text = [b' '; 232];
     calls::answer(&line, first, second, third, out, &mut text);
-    written(&text)
-}
-
-fn written(text: &[u8; 232]) -> bool {
-    io::write_all(STDOUT_FILENO, text)
+    output.write_all(&text)?;
+    Ok(true)
 }
