@@ -3,8 +3,8 @@ ghost use Rattle.std.specs.Prelude.{◌≡◌, length, replicate};
 ghost use Rattle.value.specs.Conversions.{given};
 ghost use Rattle.expression.specs.Build.{build_buffer};
 
-use bits::bytes;
 use crate::answer::integer_refusal;
+use bits::bytes;
 use types::refusal::Refusal;
 use types::value::AmlValue;
 use value::convert::{IntegerAnswer, LengthAnswer, as_integer};

@@ -7,9 +7,9 @@ ghost use Rattle.types.specs.declared.value.AmlType.TheVariants as T;
 ghost use Rattle.value.specs.Lengths.{length_of};
 ghost use Rattle.expression.specs.Concat as C;
 
-use bits::bytes;
 use crate::answer::length_refusal;
 use crate::number::{Operands, both_operands};
+use bits::bytes;
 use types::refusal::Refusal;
 use types::value::{AmlType, AmlValue, type_of};
 use value::convert::{LengthAnswer, as_buffer, buffer_length};

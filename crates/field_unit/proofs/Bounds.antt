@@ -6,7 +6,6 @@ use mathlib.Core.Bool.{Bool, true, false}
 use Prim.Native.Nat.{ℕ, ◌+◌, ◌-◌, ◌≤◌}
 use native.Mathlib.Nat.{add-mul, mul-le-mul_right, lt-div-mul-add, div-mul-le_self}
 use native.Mathlib.Omega.{arith}
-use lib.ListN.{length}
 use Rattle.bits.proofs.Laws.{lt_cases, eq_cases}
 use Rattle.types.specs.Flags.{access_width}
 use Rattle.types.specs.Refusals.{first_of}

@@ -10,7 +10,7 @@ use native.Mathlib.Omega.{arith}
 use lib.Bits.{bit_and, bit_or, bit_xor, or_lt}
 use lib.Count.{count_trailing_zeros}
 use lib.Pow.{pow_pos, shr_lt}
-use lib.ListN.{length, get_or}
+use lib.ListN.{get_or}
 use Rattle.bits.specs.Bits.{bit_of, run, put, from, get_bits, set_bits}
 use Rattle.bits.proofs.Laws.{lt_cases, bit_of_lt, bit_of_none, bit_of_shift, run_below, run_ext, run_bit, run_high, run_eq, put_in, put_below, put_above, put_cases, put_lt}
 use Rattle.bits.proofs.With.{with_bits_cong}

@@ -12,7 +12,7 @@ use borrow.Enum.Refused.{Among, opened}
 use lib.Dec.{eqb}
 use lib.ListN.{length, take, drop, length-append, length-take, length-drop}
 use lib.Seq.{take-append_seam}
-use Rattle.bits.specs.Bits.{bit_of, run_bits, bytes, bytes_for}
+use Rattle.bits.specs.Bits.{bit_of, run_bits, bytes_for}
 use Rattle.bits.proofs.Laws.{lt_cases, bytes_length}
 use Rattle.types.specs.Refusals.{first_of, judged}
 use Rattle.types.specs.declared.refusal.Refusal.{Refusal}

@@ -14,7 +14,7 @@ use Rattle.text.specs.declared.Number.{Number}
 use Rattle.text.specs.declared.Number.TheVariants as N
 use Rattle.text.specs.Pairs.{pairs, none, pairs_of, within, filled, pairs_into}
 use Rattle.text.proofs.HexPairs.{pairs_is, pairs_room, pairs_bad, pairs_output}
-use Rattle.script.specs.Operands.{operand, number_operand, bytes_operand, alone, operand_of}
+use Rattle.script.specs.Operands.{number_operand, bytes_operand, alone, operand_of}
 use Rattle.script.specs.Steps.{read_as, count_of, alone_as, number_as}
 use Rattle.script.specs.declared.operand.OperandAnswer.{OperandAnswer}
 use Rattle.script.specs.declared.operand.OperandAnswer.TheVariants as OA

@@ -1,7 +1,7 @@
 -- Field units meet the laws of footprints: each access goes to a unit from the field's first to its last (proper), a unit is whole bytes, and a store of a
 -- unit keeps every byte outside it. One access after the other they are document 01's list run in order (first_whole).
 -- Assumes nothing.
-use Prim.Native.Nat.{ℕ, zero, suc, ◌+◌, ◌-◌, ◌*◌, ◌/◌, ◌%◌, ◌≤◌, ◌<◌}
+use Prim.Native.Nat.{ℕ, zero, suc, ◌+◌, ◌*◌, ◌/◌, ◌%◌, ◌≤◌, ◌<◌}
 use native.Mathlib.Omega.{arith}
 use native.Mathlib.Decide.{dec_le, dec_lt}
 use native.Mathlib.Nat.{mul-le-mul_right, suc-mul, mul_assoc, mul_comm}

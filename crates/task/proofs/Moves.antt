@@ -15,7 +15,7 @@ use Rattle.types.specs.declared.refusal.Outcome.TheVariants as O
 use Rattle.field_unit.specs.Calls.{plan_of, count_of, access_at}
 use Rattle.field_unit.specs.declared.access.FieldOp.{FieldOp}
 use Rattle.together.specs.System.{Slot, Ended, Conf, Active, Apart, NextAccess, Move, stay, begin, more, last, Run, then}
-use Rattle.task.specs.Tasks.{idle, task_at, carries_lock, start_checks, started, step_checks, accessed, is_last, task_after, answer_after, stepped_table}
+use Rattle.task.specs.Tasks.{task_at, carries_lock, start_checks, started, step_checks, accessed, is_last, task_after, answer_after, stepped_table}
 use Rattle.task.specs.Runs.{Call, start_call, step_call, StoreMade, Finished, Moment, store_of, next_store, change, ends, stored_by, called, ran, Agreed}
 use Rattle.task.specs.declared.table.Task.{Task}
 use Rattle.task.specs.declared.table.Table.{Table}

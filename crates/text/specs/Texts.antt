@@ -1,7 +1,7 @@
 -- The number that a text of digits says. Document 01, "Conversions": "leading zeros are free; no digit, another character or a number over
 -- 2^64 − 1 is 1"; "Script program": "decimal Integer (leading zeros free)".
 -- Assumes nothing.
-use Rattle.std.specs.Prelude.{ℕ, ◌+◌, ◌-◌, ◌*◌, ◌^◌, Bool, true, false, cond, ◌&&◌, List, [], ◌∷◌, ltb, length}
+use Rattle.std.specs.Prelude.{ℕ, ◌+◌, ◌-◌, ◌*◌, ◌^◌, Bool, true, cond, ◌&&◌, List, [], ◌∷◌, ltb, length}
 use Rattle.text.specs.declared.Number.{Number}
 use Rattle.text.specs.declared.Number.TheVariants.{Is, Bad}
 

@@ -1,6 +1,6 @@
 use mathlib.Core.Path.{◌≡◌, sym, ap, ◌∙◌, refl}
 use mathlib.Core.List.{[]}
-use Prim.Native.Nat.{ℕ, ◌+◌, ◌-◌, ◌*◌}
+use Prim.Native.Nat.{ℕ, ◌+◌, ◌*◌}
 use native.Mathlib.Nat.{le-div_iff_mul-le, div-lt_iff_lt-mul}
 use native.Mathlib.Omega.{arith}
 use borrow.Author.Rules.{rules}

@@ -1,10 +1,10 @@
 use mathlib.Core.Path.{◌≡◌, refl, sym, ap, ◌∙◌}
-use Prim.Native.Nat.{◌+◌, ◌-◌, ◌*◌}
+use Prim.Native.Nat.{◌+◌, ◌*◌}
 use borrow.Author.Rules.{rules}
 use lib.ListN as L
 use Rattle.bits.specs.Bits.{bit_at, with_bits}
 use Rattle.bits.proofs.With.{with_bits_none, with_bits_length}
-use Rattle.bits.proofs.Turns.{goal, ahead, carry_first, carry_next, write_turn, write_carry, write_rest}
+use Rattle.bits.proofs.Turns.{ahead, carry_first, carry_next, write_turn, write_carry, write_rest}
 use Rattle.bits.proofs.long.write_long.Goals as goal
 
 pub loop-j-init : goal.loop-j-init

@@ -2,7 +2,7 @@
 -- (self_turn), and then what is left of them (self_rest). Above them go the bits that were taken first (write_rest). The measure is j.
 -- Assumes nothing.
 use mathlib.Core.Path.{◌≡◌}
-use Prim.Native.Nat.{◌-◌, ◌*◌, ◌≤◌}
+use Prim.Native.Nat.{◌*◌, ◌≤◌}
 use lib.ListN as L
 use Rattle.bits.proofs.Turns.{upper}
 use Rattle.bits.proofs.long.write_self.Given as goal

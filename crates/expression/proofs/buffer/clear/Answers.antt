@@ -1,4 +1,4 @@
-use Rattle.std.proofs.Common.{◌-◌, length, ap, ◌∙◌, arith, rules}
+use Rattle.std.proofs.Common.{length, ap, ◌∙◌, arith, rules}
 use borrow.Author.Fill.{fill_none, fill_more}
 use Rattle.expression.proofs.Filling.{filled_length, filled}
 use Rattle.expression.proofs.buffer.clear.Goals as goal

@@ -1,4 +1,4 @@
-use Rattle.std.proofs.Common.{◌-◌, refl, arith, rules}
+use Rattle.std.proofs.Common.{refl, arith, rules}
 use Rattle.expression.proofs.Comparing.{right_ends, byte_less, byte_greater, byte_same, left_ends, both_end}
 use Rattle.expression.proofs.compare.compare_bytes.Goals as goal
 

@@ -1,4 +1,4 @@
-use Rattle.std.proofs.Common.{◌-◌, length, refl, arith, rules}
+use Rattle.std.proofs.Common.{refl, arith, rules}
 use Rattle.bits.specs.Bits.{run_bits, bytes_for}
 use Rattle.bits.proofs.Laws.{bytes_length}
 use Rattle.expression.proofs.Comparing.{right_ends, byte_less, byte_greater, byte_same, left_ends, both_end, byte_of_field}

@@ -1,4 +1,4 @@
-use Rattle.std.proofs.Common.{◌-◌, refl, arith, rules}
+use Rattle.std.proofs.Common.{refl, arith, rules}
 use Rattle.expression.proofs.Comparing.{words_same}
 use Rattle.expression.proofs.compare.same_words.Goals as goal
 

@@ -2,7 +2,7 @@
 -- Assumes nothing.
 use Rattle.types.specs.declared.value.AmlType.TheVariants as T
 use borrow.Enum.Refused.{shut}
-use Rattle.expression.proofs.Naming.{name_fits, name_put, no_name_put}
+use Rattle.expression.proofs.Naming.{name_put, no_name_put}
 use Rattle.expression.proofs.concat.put_name.Goals as goal
 
 pub returns-in-BufferField : goal.returns-in-BufferField

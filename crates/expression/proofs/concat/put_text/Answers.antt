@@ -1,6 +1,6 @@
 -- `concat::put_text` meets its contract: a String's own bytes, or the name of its kind.
 -- Assumes nothing.
-use Rattle.expression.proofs.Naming.{string_fits, string_put, kind_fits, kind_put}
+use Rattle.expression.proofs.Naming.{string_put, kind_fits, kind_put}
 use Rattle.expression.proofs.concat.put_text.Goals as goal
 
 pub put_name-requires : goal.put_name-requires

@@ -1,4 +1,4 @@
-use Rattle.std.proofs.Common.{◌-◌, rules}
+use Rattle.std.proofs.Common.{rules}
 use Rattle.expression.proofs.Resources.{sum_start, sum_more, sum_end}
 use Rattle.expression.proofs.concat.sum.Goals as goal
 

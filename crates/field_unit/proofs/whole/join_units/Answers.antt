@@ -1,5 +1,4 @@
 use mathlib.Core.Path.{◌∙◌}
-use Prim.Native.Nat.{◌-◌}
 use native.Mathlib.Omega.{arith}
 use Rattle.field_unit.proofs.Parts.{width_least, width_most}
 use Rattle.field_unit.proofs.Joined.{joined_all, first_begins, next_begins, joining_start, joining_next, joining_few}

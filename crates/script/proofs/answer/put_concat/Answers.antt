@@ -41,4 +41,3 @@ returns-in-String c = rw (concat_string _ _ _ _ c.requires.1 c.requires.2 _ _ re
 
 pub returns-in-Refused : goal.returns-in-Refused
 returns-in-Refused c = rw (concat_refused _ _ _ _ c.requires.1 c.requires.2 _ _ refl _ c.def_concat-answer.ensures _ c.in-Refused.is) c.put_refusal.ensures
-

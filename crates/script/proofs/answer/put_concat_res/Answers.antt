@@ -25,4 +25,3 @@ returns-in-Length c = rw (resources_bytes _ _ _ _ c.requires.1 c.requires.2 _ _ 
 
 pub returns-in-Refused : goal.returns-in-Refused
 returns-in-Refused c = rw (resources_refused _ _ _ _ c.requires.1 c.requires.2 _ _ refl _ c.def_concat_res-answer.ensures _ c.in-Refused.is) c.put_refusal.ensures
-

@@ -35,4 +35,3 @@ overflow_add-result c = omega (arith, simp length-take at c.answer_operands-step
 
 pub returns : goal.returns
 returns c = job_done _ _ c.named_line-line.ensures _ c.in-Is.is _ c.op_of-found.ensures _ _ c.in-Is-found.is _ _ _ _ _ c.answer_operands-step.ensures
-

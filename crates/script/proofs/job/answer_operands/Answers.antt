@@ -67,4 +67,3 @@ answer_op-next-requires c =
 
 pub returns : goal.returns
 returns c = operands_done _ _ _ _ _ c.operand_line-first.ensures _ _ _ c.in-Is.is _ _ c.operand_line-second.ensures _ _ _ c.in-Is-second.is _ _ c.operand_line-third.ensures _ _ _ c.in-Is-third.is _ _ _ _ c.answer_op-next.ensures
-

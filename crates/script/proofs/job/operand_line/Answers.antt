@@ -20,4 +20,3 @@ overflow_add-n c =
 
 pub returns : goal.returns
 returns c = line_operand _ _ _ _ c.named_line-line.ensures _ c.in-Is.is _ _ c.operand_of-answer.ensures _ c.fill.ensures
-

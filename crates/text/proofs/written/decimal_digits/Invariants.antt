@@ -2,7 +2,7 @@
 -- Assumes nothing.
 use mathlib.Core.Path.{◌≡◌}
 use mathlib.Core.List.{◌++◌}
-use Prim.Native.Nat.{◌+◌, ◌-◌, ◌^◌, ◌<◌}
+use Prim.Native.Nat.{◌+◌, ◌^◌, ◌<◌}
 use lib.ListN.{length, drop}
 use Rattle.text.specs.Written.{decimal_digits, decimal_text}
 use Rattle.text.proofs.written.decimal_digits.Given as goal
