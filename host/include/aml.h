@@ -1,4 +1,4 @@
-/* The proved field layer, for C99 on x86-64 Linux. `rt staticlib link` makes the archive, target/staticlib/liblink.a.
+/* The proved field layer, for C99 on x86-64 Linux. `tools/built link` makes the archive, target/staticlib/liblink.a.
  *
  * Every call ends, checks its own arguments and answers by a struct of numbers. A refusal changes no byte.
  * Bytes are lent for the call, as a pointer and a length: the pointer is not null (AML_NO_BYTES where there are none), the bytes stay

@@ -1,4 +1,4 @@
-// Where the archive is: AML_LIB_DIR, or where `rt staticlib link` puts it.
+// Where the archive is: AML_LIB_DIR, or where `tools/built link` puts it.
 use std::env;
 
 fn main() {

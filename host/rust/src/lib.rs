@@ -1,5 +1,5 @@
 //! ACPI buffer fields, field units, values, operators and a table of four tasks, with the names of the crate aml 0.16.4 where it has them.
-//! The work is done by a proved static library (`rt staticlib link`): every call ends, checks its own arguments and refuses by a [`Refusal`],
+//! The work is done by a proved static library (`tools/built link`): every call ends, checks its own arguments and refuses by a [`Refusal`],
 //! and a refusal changes no byte.
 //!
 //! ```
