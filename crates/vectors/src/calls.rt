@@ -1,5 +1,6 @@
 // A job's call: what is lent with it, and what is told of it.
-ghost use Rattle.std.specs.Prelude.{◌≤◌, length};
+ghost use Rattle.std.specs.Counts.{IsPrefixLen};
+ghost use Rattle.std.specs.Prelude.{◌≤◌};
 
 use crate::lent::{fill, fill_out, tell};
 use crate::lines::{byte, half};
@@ -12,7 +13,7 @@ const MID: u8 = 25;
 // The length in these columns, cut to the bytes there are.
 fn length(line: &[u8; 496], at: usize, bytes: &[u8]) -> usize
     requires { at ≤ 488 }
-    ensures { result ≤ length bytes.now }
+    ensures { IsPrefixLen result bytes.now }
 {
     bytes.len().min(half(line, at) as usize)
 }
