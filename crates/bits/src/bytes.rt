@@ -9,6 +9,8 @@ pub fn copy(src: &[u8], dst: &mut [u8]) -> usize
     ensures bytes { dst.new ≡ take (min (length src.now) (length dst.old)) src.now ++ drop (min (length src.now) (length dst.old)) dst.old }
 {
     let n = lesser(src.len(), dst.len());
-    dst[..n].copy_from_slice(&src[..n]);
+    for i in 0..n {
+        dst[i] = src[i];
+    }
     n
 }
