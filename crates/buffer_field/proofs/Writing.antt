@@ -6,8 +6,7 @@ use mathlib.Core.List.{List, [], ◌∷◌}
 use Prim.Native.Nat.{ℕ, ◌≤◌, ◌<◌, min}
 use native.Mathlib.Omega.{arith}
 use denote.Enum.Declared.{tag_of}
-use types.Run.{miss}
-use borrow.Enum.Refused.{Among, opened}
+use types.Run.{OneOf, miss}
 use lib.ListN.{length}
 use borrow.Author.Tests.{lt-ltb, le-ltb}
 use Rattle.bits.specs.Bits.{bit_of, with_bits, set_bits}
@@ -72,10 +71,10 @@ module _ (s bytes : List ℕ) (o n : ℕ) (v : AmlValue) where
 abbrev pub unwritten : List ℕ
 unwritten = 2 ∷ 4 ∷ 5 ∷ 6 ∷ 7 ∷ 8 ∷ 9 ∷ 10 ∷ 11 ∷ 12 ∷ 13 ∷ []
 
-pub writes_nothing : (v : AmlValue) (bytes : List ℕ) (n : ℕ) → Among unwritten (tag_of the_type v) → written v bytes n ≡ nothing
-writes_nothing (Val.Boolean b) bytes n k = absurd (miss unwritten 0 tt (opened k))
-writes_nothing (Val.Integer x) bytes n k = absurd (miss unwritten 1 tt (opened k))
-writes_nothing Val.Buffer bytes n k = absurd (miss unwritten 3 tt (opened k))
+pub writes_nothing : (v : AmlValue) (bytes : List ℕ) (n : ℕ) → OneOf unwritten (tag_of the_type v) → written v bytes n ≡ nothing
+writes_nothing (Val.Boolean b) bytes n k = absurd (miss unwritten 0 tt k)
+writes_nothing (Val.Integer x) bytes n k = absurd (miss unwritten 1 tt k)
+writes_nothing Val.Buffer bytes n k = absurd (miss unwritten 3 tt k)
 writes_nothing Val.String bytes n k = refl
 writes_nothing (Val.BufferField p m) bytes n k = refl
 writes_nothing (Val.Field f) bytes n k = refl

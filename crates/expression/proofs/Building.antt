@@ -1,6 +1,6 @@
 -- Building a buffer: 27, the size's refusals, 11, 20, then the initial bytes and zeros.
 -- Assumes nothing.
-use Rattle.std.proofs.Common.{◌≡◌, ℕ, ◌-◌, ◌<◌, ◌≤◌, List, ◌++◌, length, take, drop, min, replicate, sym, ap, ◌∙◌, arith, length-drop, length-take, le-ltb, lt-ltb}
+use Rattle.std.proofs.Common.{◌≡◌, ℕ, ◌-◌, ◌<◌, ◌≤◌, List, ◌++◌, length, take, drop, replicate, sym, ap, ◌∙◌, arith, length-drop, length-take, le-ltb, lt-ltb}
 use borrow.Rule.Slice.PartMut.{put_mid}
 use Rattle.types.specs.Refusals.{first_of}
 use Rattle.types.specs.declared.refusal.Refusal.{Refusal}
@@ -45,13 +45,12 @@ module _ (v : AmlValue) (s initial out : List ℕ) where
       build_all b f t g = rw (← made, l, le-ltb n (length initial) b, le-ltb (length out) n f, g)
 
       -- the initial bytes are copied, then the bytes behind them cleared
-      pub build_done : length initial ≤ n → n ≤ length out → (at : ℕ) → at ≡ min (length initial) (length out)
-          → (t : List ℕ) → t ≡ take (min (length initial) (length out)) initial ++ drop (min (length initial) (length out)) out
+      pub build_done : length initial ≤ n → n ≤ length out → (at : ℕ) → at ≡ length initial
+          → (t : List ℕ) → t ≡ take (length initial) initial ++ drop (length initial) out
           → (ys : List ℕ) → ys ≡ replicate (length (take (n - at) (drop at t))) 0
           → given (LA.Length n) (put_mid at (n - at) t ys) ≡ build_buffer v s initial out
-      build_done b f at p t c ys z =
-          let a : at ≡ length initial = omega (arith, p) in
-          let i = copied initial out t (omega arith) c in
+      build_done b f at a t c ys z =
+          let i = copied initial out t c in
           let m : length t ≡ length out = ap length i ∙ into_length initial out (omega arith) in
           let k : length (take (n - at) (drop at t)) ≡ n - length initial = simp (length-take, length-drop) (omega arith) in
           build_all b f _ (behind initial out t i at n a b ys ∙ rw (z, k))

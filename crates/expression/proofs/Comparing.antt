@@ -2,8 +2,7 @@
 -- Assumes nothing.
 use Rattle.std.proofs.Common.{◌≡◌, ℕ, zero, suc, ◌+◌, ◌-◌, ◌*◌, ◌<◌, ◌≤◌, min, Bool, List, [], ◌∷◌, length, get_or, drop, sym, refl, ap, ◌∙◌, add-one, arith, drop_of_length-le, drop-cons, le-ltb, lt-ltb}
 use denote.Enum.Declared.{tag_of}
-use types.Run.{miss}
-use borrow.Enum.Refused.{Among, opened}
+use types.Run.{OneOf, miss}
 use Rattle.bits.specs.Bits.{bit_of, bit_at, run, get_bits, run_bits, bytes, bytes_for, from}
 use Rattle.bits.proofs.Laws.{lt_cases, bit_at_lt, run_bit, run_byte, run_more, run_ext, put_in, put_above, bytes_at, bytes_length}
 use Rattle.types.specs.Values.{type_of}
@@ -170,7 +169,7 @@ module _ (l : List ℕ) (v : AmlValue) (t : List ℕ) (h : length t ≤ 65536) (
     buffer_refused q d r g = rw (g q d, counted_none (to_buffer (held_by v t)) q (buffer_counted v t h ∙ sym e ∙ d))
 
     module _ (n : ℕ) (d : counted ≡ LA.Length n) where
-      pub buffer_compared : Among not_field (tag_of the_type v) → (r : CompareAnswer) → r ≡ compare_bytes l t → r ≡ texts l (to_buffer (held_by v t))
+      pub buffer_compared : OneOf not_field (tag_of the_type v) → (r : CompareAnswer) → r ≡ compare_bytes l t → r ≡ texts l (to_buffer (held_by v t))
       buffer_compared k r g = g ∙ rw (only_buffer v t n k (buffer_counted v t h ∙ sym e ∙ d))
 
       module _ (o m : ℕ) (k : v ≡ Val.BufferField o m) where
@@ -207,13 +206,13 @@ by_unit (UR.Refused r) b = refl
 abbrev pub uncompared : List ℕ
 uncompared = 4 ∷ 6 ∷ 7 ∷ 8 ∷ 9 ∷ 10 ∷ 11 ∷ 12 ∷ 13 ∷ []
 
-cannot_compare : (v : AmlValue) (s : List ℕ) (b : Held) → Among uncompared (tag_of the_type v) → compared (held_by v s) b ≡ C.Refused (R.TypeCannotBeCompared (type_of v))
+cannot_compare : (v : AmlValue) (s : List ℕ) (b : Held) → OneOf uncompared (tag_of the_type v) → compared (held_by v s) b ≡ C.Refused (R.TypeCannotBeCompared (type_of v))
 unfolding compared
-cannot_compare (Val.Boolean x) s b k = absurd (miss uncompared 0 tt (opened k))
-cannot_compare (Val.Integer x) s b k = absurd (miss uncompared 1 tt (opened k))
-cannot_compare Val.String s b k = absurd (miss uncompared 2 tt (opened k))
-cannot_compare Val.Buffer s b k = absurd (miss uncompared 3 tt (opened k))
-cannot_compare (Val.Field f) s b k = absurd (miss uncompared 5 tt (opened k))
+cannot_compare (Val.Boolean x) s b k = absurd (miss uncompared 0 tt k)
+cannot_compare (Val.Integer x) s b k = absurd (miss uncompared 1 tt k)
+cannot_compare Val.String s b k = absurd (miss uncompared 2 tt k)
+cannot_compare Val.Buffer s b k = absurd (miss uncompared 3 tt k)
+cannot_compare (Val.Field f) s b k = absurd (miss uncompared 5 tt k)
 cannot_compare (Val.BufferField o m) s b k = refl
 cannot_compare Val.OpRegion s b k = refl
 cannot_compare Val.Device s b k = refl
@@ -246,7 +245,7 @@ module _ (a : AmlValue) (s : List ℕ) (b : AmlValue) (t : List ℕ) where
     unfolding compared
     left_buffer k r e = e ∙ rw (← by_left, k)
 
-    pub left_other : Among uncompared (tag_of the_type a) → (m : AmlType) → m ≡ type_of a → C.Refused (R.TypeCannotBeCompared m) ≡ compare a s b t
+    pub left_other : OneOf uncompared (tag_of the_type a) → (m : AmlType) → m ≡ type_of a → C.Refused (R.TypeCannotBeCompared m) ≡ compare a s b t
     left_other k m e = rw (e, ← by_left) (sym (cannot_compare a s (held_by b t) k))
 
     module _ (both : Operands) (e : both ≡ operands a s b t) (r : CompareAnswer) (c : r ≡ compared_operands both) where

@@ -3,8 +3,7 @@
 -- Assumes nothing.
 use Rattle.std.proofs.Common.{◌≡◌, ℕ, ◌+◌, ◌*◌, ◌<◌, ◌≤◌, List, [], ◌∷◌, length, sym, refl, ap, ◌∙◌, arith}
 use denote.Enum.Declared.{tag_of}
-use types.Run.{miss}
-use borrow.Enum.Refused.{Among, opened}
+use types.Run.{OneOf, miss}
 use Rattle.bits.specs.Bits.{bytes, run_bits, bytes_for}
 use Rattle.bits.proofs.Laws.{lt_cases, bytes_length}
 use Rattle.types.specs.declared.refusal.Refusal.{Refusal}
@@ -59,10 +58,10 @@ abbrev pub not_field : List ℕ
 not_field = 0 ∷ 1 ∷ 2 ∷ 3 ∷ 5 ∷ 6 ∷ 7 ∷ 8 ∷ 9 ∷ 10 ∷ 11 ∷ 12 ∷ 13 ∷ []
 
 -- of these only a Buffer is bytes as a buffer
-pub only_buffer : (v : AmlValue) (t : List ℕ) (n : ℕ) → Among not_field (tag_of the_type v) → length_of (to_buffer (held_by v t)) ≡ LA.Length n → to_buffer (held_by v t) ≡ these t
+pub only_buffer : (v : AmlValue) (t : List ℕ) (n : ℕ) → OneOf not_field (tag_of the_type v) → length_of (to_buffer (held_by v t)) ≡ LA.Length n → to_buffer (held_by v t) ≡ these t
 unfolding to_buffer
 only_buffer Val.Buffer t n k e = refl
-only_buffer (Val.BufferField o m) t n k e = absurd (miss not_field 4 tt (opened k))
+only_buffer (Val.BufferField o m) t n k e = absurd (miss not_field 4 tt k)
 only_buffer (Val.Field f) t n k e = no_bytes _ _ n (unit_no_buffer (read_field t f)) e
 only_buffer (Val.Boolean b) t n k e = no_bytes _ _ n refl e
 only_buffer (Val.Integer x) t n k e = no_bytes _ _ n refl e

@@ -1,6 +1,6 @@
 -- Bytes at the front of an output, one piece behind the other: what was there stays behind the last piece.
 -- Assumes nothing.
-use Rattle.std.proofs.Common.{◌≡◌, ℕ, ◌+◌, ◌-◌, ◌≤◌, List, [], ◌++◌, length, take, drop, min, replicate, sym, ap, ◌∙◌, append_assoc, append-nil, arith, length-append, length-drop, take_all, drop-drop}
+use Rattle.std.proofs.Common.{◌≡◌, ℕ, ◌+◌, ◌-◌, ◌≤◌, List, [], ◌++◌, length, take, drop, replicate, sym, ap, ◌∙◌, append_assoc, append-nil, arith, length-append, length-drop, take_all, drop-drop}
 use lib.ListN.{length-replicate}
 use lib.Seq.{drop-append-add, drop-length, take-append_seam, drop-append_seam}
 use borrow.Rule.Slice.PartMut.{put_mid}
@@ -28,8 +28,8 @@ kept l out p h =
     ∙ drop-drop (p - length l) (length l) out
     ∙ ap (λ (k : ℕ). drop k out) e
 
-pub copied : (l out t : List ℕ) → length l ≤ length out → t ≡ take (min (length l) (length out)) l ++ drop (min (length l) (length out)) out → t ≡ into l out
-copied l out t h e = e ∙ copy_into l out h
+pub copied : (l out t : List ℕ) → t ≡ take (length l) l ++ drop (length l) out → t ≡ into l out
+copied l out t e = e ∙ copy_into l out
 
 -- the bytes from the end of the first list on become ys: the first list, then ys, then what stood there
 module _ (l out t : List ℕ) (e : t ≡ into l out) where

@@ -1,9 +1,8 @@
 -- Concat: two texts, buffers or numbers one behind the other at the front of the output, or the first refusal; 20 last.
 -- Assumes nothing.
-use Rattle.std.proofs.Common.{◌≡◌, ℕ, ◌+◌, ◌-◌, ◌<◌, ◌≤◌, Bool, List, [], ◌∷◌, ◌++◌, length, get_or, take, drop, min, sym, refl, ap, ◌∙◌, arith, length-append, length-drop, get_or-drop}
+use Rattle.std.proofs.Common.{◌≡◌, ℕ, ◌+◌, ◌-◌, ◌<◌, ◌≤◌, Bool, List, [], ◌∷◌, ◌++◌, length, get_or, take, drop, sym, refl, ap, ◌∙◌, arith, length-append, length-drop, get_or-drop}
 use denote.Enum.Declared.{tag_of}
-use types.Run.{miss}
-use borrow.Enum.Refused.{Among, opened}
+use types.Run.{OneOf, miss}
 use borrow.Rule.Slice.PartMut.{put_mid}
 use Rattle.bits.specs.Bits.{bit_of, set_bits}
 use Rattle.bits.proofs.Laws.{bytes_length}
@@ -143,13 +142,12 @@ module _ (l : List ℕ) (v : AmlValue) (s out : List ℕ) (h : length s ≤ 6553
     pub buffers_shorter : length out - length l < n → concatenated (C.Refused R.OutputTooShort) out ≡ delivered (join_buffers l (to_buffer (held_by v s))) out
     buffers_shorter k = rw (buffers, no_room_right l right out (omega (arith, long)))
 
-    pub buffers_done : length l ≤ length out → n ≤ length out - length l → (at : ℕ) → at ≡ min (length l) (length out)
-        → (t : List ℕ) → t ≡ take (min (length l) (length out)) l ++ drop (min (length l) (length out)) out
+    pub buffers_done : length l ≤ length out → n ≤ length out - length l → (at : ℕ) → at ≡ length l
+        → (t : List ℕ) → t ≡ take (length l) l ++ drop (length l) out
         → (r : LengthAnswer) (ys : List ℕ) → given r ys ≡ as_buffer v s (take (length t - at) (drop at t))
         → concatenated (C.Buffer (at + n)) (put_mid at (length t - at) t ys) ≡ delivered (join_buffers l (to_buffer (held_by v s))) out
-    buffers_done k g at c t p r ys q =
-        let f : at ≡ length l = omega (arith, c) in
-        let i = copied l out t k p in
+    buffers_done k g at f t p r ys q =
+        let i = copied l out t p in
         let b = take (length t - at) (drop at t) in
         let w : length right ≤ length b = rw (rest l right out t i k at f) (omega (arith, length-drop at out, long)) in
         let y : given r ys ≡ given (LA.Length (length right)) (into right b) =
@@ -169,11 +167,11 @@ joined_numbers (IA.Integer i) (IA.Integer n) = refl
 abbrev pub texty : List ℕ
 texty = 2 ∷ 4 ∷ 5 ∷ 6 ∷ 7 ∷ 8 ∷ 9 ∷ 10 ∷ 11 ∷ 12 ∷ 13 ∷ []
 
-joined_texts : (v : AmlValue) (s : List ℕ) (b : Held) → Among texty (tag_of AmlValue.the_type v) → join_both (text_of (held_by v s)) (text_of b) ≡ joined (held_by v s) b
+joined_texts : (v : AmlValue) (s : List ℕ) (b : Held) → OneOf texty (tag_of AmlValue.the_type v) → join_both (text_of (held_by v s)) (text_of b) ≡ joined (held_by v s) b
 unfolding joined
-joined_texts (Val.Boolean x) s b k = absurd (miss texty 0 tt (opened k))
-joined_texts (Val.Integer x) s b k = absurd (miss texty 1 tt (opened k))
-joined_texts Val.Buffer s b k = absurd (miss texty 3 tt (opened k))
+joined_texts (Val.Boolean x) s b k = absurd (miss texty 0 tt k)
+joined_texts (Val.Integer x) s b k = absurd (miss texty 1 tt k)
+joined_texts Val.Buffer s b k = absurd (miss texty 3 tt k)
 joined_texts Val.String s b k = refl
 joined_texts (Val.BufferField o n) s b k = refl
 joined_texts (Val.Field f) s b k = refl
@@ -204,7 +202,7 @@ module _ (a : AmlValue) (s : List ℕ) (b : AmlValue) (t out : List ℕ) where
     unfolding joined
     concat_buffer k f = by_left (join_buffers s (to_buffer (held_by b t))) (rw k) f
 
-    pub concat_text : Among texty (tag_of AmlValue.the_type a)
+    pub concat_text : OneOf texty (tag_of AmlValue.the_type a)
         → concatenated r w ≡ delivered (join_both (text_of (held_by a s)) (text_of (held_by b t))) out → concatenated r w ≡ concat a s b t out
     concat_text k f = by_left (join_both (text_of (held_by a s)) (text_of (held_by b t))) (joined_texts a s (held_by b t) k) f
 

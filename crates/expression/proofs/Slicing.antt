@@ -3,8 +3,7 @@
 -- Assumes nothing.
 use Rattle.std.proofs.Common.{◌≡◌, ℕ, zero, suc, ◌+◌, ◌-◌, ◌<◌, ◌≤◌, min, Bool, true, false, ◌||◌, ltb, leb, List, [], ◌∷◌, length, take, drop, sym, refl, ap, ◌∙◌, arith, length-drop, drop_of_length-le, length-take, ltb-false, ltb-true, le-ltb, lt-ltb, leb-false, leb-true}
 use denote.Enum.Declared.{tag_of}
-use types.Run.{miss}
-use borrow.Enum.Refused.{Among, opened}
+use types.Run.{OneOf, miss}
 use lib.Seq.{take-nil}
 use Rattle.types.specs.Refusals.{first_of, judged}
 use Rattle.types.specs.Values.{type_of}
@@ -70,11 +69,11 @@ each h false (IA.Integer i) (IA.Integer n) = refl
 abbrev pub unsliced : List ℕ
 unsliced = 0 ∷ 1 ∷ 4 ∷ 5 ∷ 6 ∷ 7 ∷ 8 ∷ 9 ∷ 10 ∷ 11 ∷ 12 ∷ 13 ∷ []
 
-pub cannot_slice : (v : AmlValue) (s : List ℕ) (i n : ℕ) → Among unsliced (tag_of the_type v) → source (held_by v s) i n ≡ none (R.TypeCannotBeSliced (type_of v))
+pub cannot_slice : (v : AmlValue) (s : List ℕ) (i n : ℕ) → OneOf unsliced (tag_of the_type v) → source (held_by v s) i n ≡ none (R.TypeCannotBeSliced (type_of v))
 cannot_slice (Val.Boolean b) s i n k = refl
 cannot_slice (Val.Integer x) s i n k = refl
-cannot_slice Val.String s i n k = absurd (miss unsliced 2 tt (opened k))
-cannot_slice Val.Buffer s i n k = absurd (miss unsliced 3 tt (opened k))
+cannot_slice Val.String s i n k = absurd (miss unsliced 2 tt k)
+cannot_slice Val.Buffer s i n k = absurd (miss unsliced 3 tt k)
 cannot_slice (Val.BufferField p m) s i n k = refl
 cannot_slice (Val.Field f) s i n k = refl
 cannot_slice Val.OpRegion s i n k = refl
@@ -148,7 +147,7 @@ module _ (v : AmlValue) (s : List ℕ) (i : AmlValue) (is : List ℕ) (n : AmlVa
       pub place_buffer : v ≡ Val.Buffer → (r : Place) → r ≡ P.At (min x (length s)) (min y (length s - min x (length s))) → r ≡ mid_place v s i is n ns
       place_buffer k r g = place_sliced (rw k) r g
 
-      pub place_other : (m : AmlType) → m ≡ type_of v → Among unsliced (tag_of the_type v) → P.Refused (R.TypeCannotBeSliced m) ≡ mid_place v s i is n ns
+      pub place_other : (m : AmlType) → m ≡ type_of v → OneOf unsliced (tag_of the_type v) → P.Refused (R.TypeCannotBeSliced m) ≡ mid_place v s i is n ns
       place_other m g k = rw (← made, t, cannot_slice v s x y k, g)
 
   -- ---- the part by its place

@@ -19,8 +19,7 @@ use Rattle.types.proofs.Widths.{Width, of_width}
 use Rattle.types.specs.declared.flags.FieldUpdateRule.{FieldUpdateRule}
 use Rattle.types.specs.declared.flags.FieldUpdateRule.TheVariants as U
 use Rattle.types.specs.contracts.flags.FieldUpdateRule.{the_type}
-use types.Run.{miss}
-use borrow.Enum.Refused.{Among, opened}
+use types.Run.{OneOf, miss}
 use denote.Enum.Declared.{tag_of}
 use Rattle.field_unit.specs.Accesses.{Plan, progress, base, lo, hi, keeps, gathered, others, merged, act}
 use Rattle.field_unit.specs.Calls.{plan_of}
@@ -216,8 +215,8 @@ rule_more (suc zero) a b = absurd (b refl)
 rule_more (suc (suc n)) a b = refl
 
 -- all rules but the first write over the bits around
-pub not_kept : (r : FieldUpdateRule) → Among (1 ∷ 2 ∷ []) (tag_of the_type r) → keeps r ≡ false
-not_kept U.Preserve k = absurd (miss (1 ∷ 2 ∷ []) 0 tt (opened k))
+pub not_kept : (r : FieldUpdateRule) → OneOf (1 ∷ 2 ∷ []) (tag_of the_type r) → keeps r ≡ false
+not_kept U.Preserve k = absurd (miss (1 ∷ 2 ∷ []) 0 tt k)
 not_kept U.WriteAsOnes k = refl
 not_kept U.WriteAsZeros k = refl
 

@@ -4,8 +4,7 @@ use mathlib.Core.Path.{◌≡◌, refl}
 use mathlib.Core.Bool.{false}
 use mathlib.Core.List.{List, [], ◌∷◌}
 use Prim.Native.Nat.{ℕ}
-use types.Run.{miss}
-use borrow.Enum.Refused.{Among, opened}
+use types.Run.{OneOf, miss}
 use denote.Enum.Declared.{tag_of}
 use Rattle.types.specs.declared.value.RegionSpace.{RegionSpace}
 use Rattle.types.specs.declared.value.RegionSpace.TheVariants as S
@@ -16,10 +15,10 @@ use Rattle.field_unit.specs.Checks.{supported, narrow}
 abbrev pub unnamed : List ℕ
 unnamed = 3 ∷ 4 ∷ 5 ∷ 6 ∷ 7 ∷ 8 ∷ 9 ∷ 10 ∷ []
 
-pub not_supported : (s : RegionSpace) → Among unnamed (tag_of the_type s) → false ≡ supported s
-not_supported S.SystemMemory k = absurd (miss unnamed 0 tt (opened k))
-not_supported S.SystemIo k = absurd (miss unnamed 1 tt (opened k))
-not_supported S.PciConfig k = absurd (miss unnamed 2 tt (opened k))
+pub not_supported : (s : RegionSpace) → OneOf unnamed (tag_of the_type s) → false ≡ supported s
+not_supported S.SystemMemory k = absurd (miss unnamed 0 tt k)
+not_supported S.SystemIo k = absurd (miss unnamed 1 tt k)
+not_supported S.PciConfig k = absurd (miss unnamed 2 tt k)
 not_supported S.EmbeddedControl k = refl
 not_supported S.SMBus k = refl
 not_supported S.SystemCmos k = refl
@@ -30,10 +29,10 @@ not_supported S.GenericSerialBus k = refl
 not_supported (S.OemDefined n) k = refl
 
 -- with SystemMemory
-pub not_narrow : (s : RegionSpace) → Among (0 ∷ unnamed) (tag_of the_type s) → false ≡ narrow s
+pub not_narrow : (s : RegionSpace) → OneOf (0 ∷ unnamed) (tag_of the_type s) → false ≡ narrow s
 not_narrow S.SystemMemory k = refl
-not_narrow S.SystemIo k = absurd (miss (0 ∷ unnamed) 1 tt (opened k))
-not_narrow S.PciConfig k = absurd (miss (0 ∷ unnamed) 2 tt (opened k))
+not_narrow S.SystemIo k = absurd (miss (0 ∷ unnamed) 1 tt k)
+not_narrow S.PciConfig k = absurd (miss (0 ∷ unnamed) 2 tt k)
 not_narrow S.EmbeddedControl k = refl
 not_narrow S.SMBus k = refl
 not_narrow S.SystemCmos k = refl

@@ -12,6 +12,7 @@ use types::refusal::{Outcome, Refusal};
 use types::value::{FieldUnit, RegionSpace};
 
 // 9
+#[tactic(auto, using(std::proofs::lemmas::Bool::Decides::nat_tests))]
 fn bad_flags(flags: FieldFlags, write: bool) -> bool
     ensures { result ≡ bad_flags write flags.0 }
 {

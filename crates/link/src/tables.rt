@@ -54,6 +54,7 @@ fn op_of(write: u16, space: u8, flags: u8, offset: u64, length: u64, value: u64)
     }
 }
 
+#[tactic(auto, using(crate::proofs::Hosted::busy_wrong, crate::proofs::Hosted::write_wrong, crate::proofs::Hosted::length_right))]
 fn length_said(busy: u32, write: u16, length: u64) -> u64
     ensures { result ≡ L.length_said busy write length }
 {

@@ -7,8 +7,7 @@ use Prim.Native.Nat.{ℕ, ◌+◌, ◌-◌, ◌*◌, ◌≤◌}
 use native.Mathlib.Nat.{le_refl}
 use native.Mathlib.Omega.{arith}
 use denote.Enum.Declared.{tag_of}
-use types.Run.{miss}
-use borrow.Enum.Refused.{Among, opened}
+use types.Run.{OneOf, miss}
 use lib.Dec.{eqb}
 use lib.ListN.{length, take, drop, length-append, length-take, length-drop}
 use lib.Seq.{take-append_seam}
@@ -279,8 +278,8 @@ module _ (p : Bytes) (o : Outcome) (e : o ≡ mid_outcome p) where
 abbrev pub not_string : List ℕ
 not_string = 0 ∷ 1 ∷ 3 ∷ 4 ∷ 5 ∷ 6 ∷ 7 ∷ 8 ∷ 9 ∷ 10 ∷ 11 ∷ 12 ∷ 13 ∷ []
 
-pub other_letter : (v : AmlValue) → Among not_string (tag_of the_type v) → letter_of v ≡ buffer_letter
-other_letter Val.String k = absurd (miss not_string 2 tt (opened k))
+pub other_letter : (v : AmlValue) → OneOf not_string (tag_of the_type v) → letter_of v ≡ buffer_letter
+other_letter Val.String k = absurd (miss not_string 2 tt k)
 other_letter Val.Buffer k = refl
 other_letter (Val.BufferField o n) k = refl
 other_letter (Val.Field f) k = refl

@@ -3,8 +3,7 @@
 use mathlib.Core.Path.{◌≡◌, refl}
 use mathlib.Core.List.{List, [], ◌∷◌}
 use Prim.Native.Nat.{ℕ}
-use types.Run.{miss}
-use borrow.Enum.Refused.{Among, opened}
+use types.Run.{OneOf, miss}
 use Rattle.types.specs.declared.refusal.Refusal.{Refusal}
 use Rattle.types.specs.declared.refusal.Refusal.TheVariants as R
 use Rattle.types.specs.declared.refusal.Types.TheVariants as T
@@ -16,11 +15,11 @@ use denote.Enum.Declared.{tag_of}
 abbrev pub bare : List ℕ
 bare = 1 ∷ 5 ∷ 6 ∷ 7 ∷ 8 ∷ 9 ∷ 10 ∷ 11 ∷ 12 ∷ 13 ∷ 14 ∷ 15 ∷ 16 ∷ 17 ∷ 18 ∷ 19 ∷ 20 ∷ 21 ∷ 22 ∷ 23 ∷ []
 
-pub carries_nothing : (r : Refusal) → Among bare (tag_of the_type r) → T.Nothing ≡ types_of r
-carries_nothing (R.IncompatibleValueConversion a b) k = absurd (miss bare 0 tt (opened k))
-carries_nothing (R.TypeCannotBeWrittenToBufferField t) k = absurd (miss bare 2 tt (opened k))
-carries_nothing (R.TypeCannotBeCompared t) k = absurd (miss bare 3 tt (opened k))
-carries_nothing (R.TypeCannotBeSliced t) k = absurd (miss bare 4 tt (opened k))
+pub carries_nothing : (r : Refusal) → OneOf bare (tag_of the_type r) → T.Nothing ≡ types_of r
+carries_nothing (R.IncompatibleValueConversion a b) k = absurd (miss bare 0 tt k)
+carries_nothing (R.TypeCannotBeWrittenToBufferField t) k = absurd (miss bare 2 tt k)
+carries_nothing (R.TypeCannotBeCompared t) k = absurd (miss bare 3 tt k)
+carries_nothing (R.TypeCannotBeSliced t) k = absurd (miss bare 4 tt k)
 carries_nothing R.BufferFieldIndexesOutOfBounds k = refl
 carries_nothing R.ResourceDescriptorTooShort k = refl
 carries_nothing R.InvalidShiftLeft k = refl

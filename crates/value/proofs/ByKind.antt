@@ -7,8 +7,7 @@ use mathlib.Core.List.{List, [], ◌∷◌}
 use Prim.Native.Nat.{ℕ}
 use lib.Dec.{eqb}
 use denote.Enum.Declared.{tag_of}
-use types.Run.{miss}
-use borrow.Enum.Refused.{Among, opened}
+use types.Run.{OneOf, miss}
 use Rattle.types.specs.Values.{type_of}
 use Rattle.types.specs.declared.value.AmlType.{AmlType}
 use Rattle.types.specs.declared.value.AmlType.TheVariants as T
@@ -169,9 +168,9 @@ no_boolean = 1 ∷ not_bool
 abbrev no_integer : List ℕ
 no_integer = 0 ∷ not_bool
 
-pub no_number : (v : AmlValue) → Among no_integer (tag_of the_type v) → Among no_boolean (tag_of the_type v) → same_type (type_of v) T.Integer ≡ false
-no_number (Val.Boolean b) k l = absurd (miss no_boolean 0 tt (opened l))
-no_number (Val.Integer n) k l = absurd (miss no_integer 1 tt (opened k))
+pub no_number : (v : AmlValue) → OneOf no_integer (tag_of the_type v) → OneOf no_boolean (tag_of the_type v) → same_type (type_of v) T.Integer ≡ false
+no_number (Val.Boolean b) k l = absurd (miss no_boolean 0 tt l)
+no_number (Val.Integer n) k l = absurd (miss no_integer 1 tt k)
 no_number Val.String k l = refl
 no_number Val.Buffer k l = refl
 no_number (Val.BufferField o n) k l = refl
@@ -196,33 +195,33 @@ abbrev pub not_parsed : List ℕ
 not_parsed = 0 ∷ 4 ∷ 5 ∷ 6 ∷ 7 ∷ 8 ∷ 9 ∷ 10 ∷ 11 ∷ 12 ∷ 13 ∷ []
 
 module _ (v : AmlValue) (s : List ℕ) where
-  pub no_integer_lem : Among unread (tag_of the_type v) → same_type (type_of v) T.Integer ≡ false → to_integer (held_by v s) ≡ IA.Refused (no (type_of v) T.Integer)
+  pub no_integer_lem : OneOf unread (tag_of the_type v) → same_type (type_of v) T.Integer ≡ false → to_integer (held_by v s) ≡ IA.Refused (no (type_of v) T.Integer)
   unfolding to_integer
   no_integer_lem k d =
-      by_kind (λ t k. Among unread k × (same_type t T.Integer ≡ false)) to_integer (λ t. IA.Refused (no t T.Integer)) s
-      (λ b k. cc k.1) (λ n k. cc k.1) (λ k. refl) (λ k. absurd (miss unread 3 tt (opened k.0))) (λ o n k. absurd (miss unread 4 tt (opened k.0)))
-      (λ u k. absurd (miss unread 5 tt (opened k.0))) (λ t. refl) v (k, d)
+      by_kind (λ t k. OneOf unread k × (same_type t T.Integer ≡ false)) to_integer (λ t. IA.Refused (no t T.Integer)) s
+      (λ b k. cc k.1) (λ n k. cc k.1) (λ k. refl) (λ k. absurd (miss unread 3 tt k.0)) (λ o n k. absurd (miss unread 4 tt k.0))
+      (λ u k. absurd (miss unread 5 tt k.0)) (λ t. refl) v (k, d)
 
-  pub no_bool : Among not_bool (tag_of the_type v) → to_bool (held_by v s) ≡ BA.Refused (no (type_of v) T.Integer)
+  pub no_bool : OneOf not_bool (tag_of the_type v) → to_bool (held_by v s) ≡ BA.Refused (no (type_of v) T.Integer)
   unfolding to_bool
   no_bool =
-      by_kind (λ t. Among not_bool) to_bool (λ t. BA.Refused (no t T.Integer)) s (λ b k. absurd (miss not_bool 0 tt (opened k))) (λ n k. absurd (miss not_bool 1 tt (opened k)))
+      by_kind (λ t. OneOf not_bool) to_bool (λ t. BA.Refused (no t T.Integer)) s (λ b k. absurd (miss not_bool 0 tt k)) (λ n k. absurd (miss not_bool 1 tt k))
       (λ k. refl) (λ k. refl) (λ o n k. refl) (λ u k. refl) (λ t. refl) v
 
-  pub no_buffer : Among unread (tag_of the_type v) → to_buffer (held_by v s) ≡ none (no (type_of v) T.Buffer)
+  pub no_buffer : OneOf unread (tag_of the_type v) → to_buffer (held_by v s) ≡ none (no (type_of v) T.Buffer)
   unfolding to_buffer
   no_buffer =
-      by_kind (λ t. Among unread) to_buffer (λ t. none (no t T.Buffer)) s (λ b k. refl) (λ n k. refl) (λ k. refl) (λ k. absurd (miss unread 3 tt (opened k)))
-      (λ o n k. absurd (miss unread 4 tt (opened k))) (λ u k. absurd (miss unread 5 tt (opened k))) (λ t. refl) v
+      by_kind (λ t. OneOf unread) to_buffer (λ t. none (no t T.Buffer)) s (λ b k. refl) (λ n k. refl) (λ k. refl) (λ k. absurd (miss unread 3 tt k))
+      (λ o n k. absurd (miss unread 4 tt k)) (λ u k. absurd (miss unread 5 tt k)) (λ t. refl) v
 
-  pub no_string : Among not_string (tag_of the_type v) → to_string (held_by v s) ≡ none (no (type_of v) T.String)
+  pub no_string : OneOf not_string (tag_of the_type v) → to_string (held_by v s) ≡ none (no (type_of v) T.String)
   unfolding to_string
   no_string =
-      by_kind (λ t. Among not_string) to_string (λ t. none (no t T.String)) s (λ b k. refl) (λ n k. refl) (λ k. absurd (miss not_string 2 tt (opened k))) (λ k. refl)
-      (λ o n k. refl) (λ u k. absurd (miss not_string 5 tt (opened k))) (λ t. refl) v
+      by_kind (λ t. OneOf not_string) to_string (λ t. none (no t T.String)) s (λ b k. refl) (λ n k. refl) (λ k. absurd (miss not_string 2 tt k)) (λ k. refl)
+      (λ o n k. refl) (λ u k. absurd (miss not_string 5 tt k)) (λ t. refl) v
 
-  pub no_parsed : Among not_parsed (tag_of the_type v) → parsed (held_by v s) ≡ IA.Refused (no (type_of v) T.Integer)
+  pub no_parsed : OneOf not_parsed (tag_of the_type v) → parsed (held_by v s) ≡ IA.Refused (no (type_of v) T.Integer)
   unfolding parsed
   no_parsed =
-      by_kind (λ t. Among not_parsed) parsed (λ t. IA.Refused (no t T.Integer)) s (λ b k. refl) (λ n k. absurd (miss not_parsed 1 tt (opened k))) (λ k. absurd (miss not_parsed 2 tt (opened k)))
-      (λ k. absurd (miss not_parsed 3 tt (opened k))) (λ o n k. refl) (λ u k. refl) (λ t. refl) v
+      by_kind (λ t. OneOf not_parsed) parsed (λ t. IA.Refused (no t T.Integer)) s (λ b k. refl) (λ n k. absurd (miss not_parsed 1 tt k)) (λ k. absurd (miss not_parsed 2 tt k))
+      (λ k. absurd (miss not_parsed 3 tt k)) (λ o n k. refl) (λ u k. refl) (λ t. refl) v

@@ -32,10 +32,14 @@ module _ (l out : List ℕ) where
       ∙ get_or-drop (length l) out (i - length l) 0
       ∙ ap (λ (k : ℕ). get_or out k 0) e
 
-  pub copied : length l ≤ length out → take (min (length l) (length out)) l ++ drop (min (length l) (length out)) out ≡ into l out
-  copied h =
+  pub copied : take (length l) l ++ drop (length l) out ≡ into l out
+  copied = ap (λ (x : List ℕ). x ++ drop (length l) out) (take-length l)
+
+  -- where there is room, as many bytes as there is room for are all
+  pub fitted : length l ≤ length out → take (min (length l) (length out)) l ++ drop (min (length l) (length out)) out ≡ take (length l) l ++ drop (length l) out
+  fitted h =
       let e : min (length l) (length out) ≡ length l = omega arith in
-      rw e (ap (λ (x : List ℕ). x ++ drop (length l) out) (take-length l))
+      rw e
 
 -- whole bytes of bits written over the front are those bytes given there
 pub bits_into : (out : List ℕ) (m : ℕ) (g : ℕ → ℕ) → ((j : ℕ) → get_or out j 0 < 256) → m ≤ length out

@@ -6,7 +6,7 @@ use mathlib.Core.List.{List}
 use Prim.Native.Nat.{ℕ, ◌+◌, ◌-◌, ◌/◌, ◌≤◌, ◌<◌}
 use native.Mathlib.Omega.{arith}
 use denote.Enum.Declared.{tag_of}
-use borrow.Enum.Refused.{Among}
+use types.Run.{OneOf}
 use lib.ListN.{length}
 use Rattle.bits.specs.Bits.{run_bits, bytes_for}
 use Rattle.bits.proofs.Laws.{bytes_length}
@@ -74,7 +74,7 @@ module _ (v : AmlValue) (s : List ℕ) where
     pub buffer_of_unit : (f : FieldUnit) → v ≡ Val.Field f → (r : Refusal) → r ≡ unit_refusal (field_unit_content f s) T.Buffer → LA.Refused r ≡ buffer_length v s
     buffer_of_unit f k r g = rw (← buffer_counted, k, buffer_of_field_unit, unit_no_buffer (read_field s f), g)
 
-    pub buffer_of_other : Among unread (tag_of the_type v) → (t : AmlType) → t ≡ type_of v → (r : Refusal) → r ≡ no t T.Buffer → LA.Refused r ≡ buffer_length v s
+    pub buffer_of_other : OneOf unread (tag_of the_type v) → (t : AmlType) → t ≡ type_of v → (r : Refusal) → r ≡ no t T.Buffer → LA.Refused r ≡ buffer_length v s
     buffer_of_other k t f r g = rw (← buffer_counted, no_buffer v s k, g, f)
 
     pub string_of : v ≡ Val.String → LA.Length (length s) ≡ string_length v s
@@ -83,5 +83,5 @@ module _ (v : AmlValue) (s : List ℕ) where
     pub string_of_unit : (f : FieldUnit) → v ≡ Val.Field f → (r : Refusal) → r ≡ unit_refusal (field_unit_content f s) T.String → LA.Refused r ≡ string_length v s
     string_of_unit f k r g = rw (← string_counted, k, string_of_field_unit, unit_no_string (read_field s f), g)
 
-    pub string_of_other : Among not_string (tag_of the_type v) → (t : AmlType) → t ≡ type_of v → (r : Refusal) → r ≡ no t T.String → LA.Refused r ≡ string_length v s
+    pub string_of_other : OneOf not_string (tag_of the_type v) → (t : AmlType) → t ≡ type_of v → (r : Refusal) → r ≡ no t T.String → LA.Refused r ≡ string_length v s
     string_of_other k t f r g = rw (← string_counted, no_string v s k, g, f)

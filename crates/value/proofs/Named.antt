@@ -6,8 +6,7 @@ use mathlib.Core.List.{List, [], ◌∷◌}
 use Prim.Native.Nat.{ℕ, ◌≤◌}
 use lib.ListN.{length}
 use denote.Enum.Declared.{tag_of}
-use types.Run.{miss}
-use borrow.Enum.Refused.{Among, opened}
+use types.Run.{OneOf, miss}
 use borrow.Author.Tests.{eq-eqb, ne_eqb}
 use Rattle.types.specs.Values.{type_of, type_number_of}
 use Rattle.types.specs.declared.value.AmlType.{AmlType}
@@ -23,10 +22,10 @@ use Rattle.value.proofs.Lent.{as_integer_short, as_buffer_short, as_type_short}
 abbrev pub not_named : List ℕ
 not_named = 1 ∷ 2 ∷ 3 ∷ 5 ∷ 6 ∷ 7 ∷ 8 ∷ 9 ∷ 10 ∷ 11 ∷ 12 ∷ []
 
-not_named_lem : (present wanted : AmlType) (h : Held) (out : List ℕ) → Among not_named (tag_of the_type wanted)
+not_named_lem : (present wanted : AmlType) (h : Held) (out : List ℕ) → OneOf not_named (tag_of the_type wanted)
     → to_type present wanted h out ≡ given_type (TA.Refused (no present wanted)) out
-not_named_lem present T.Buffer h out k = absurd (miss not_named 0 tt (opened k))
-not_named_lem present T.Integer h out k = absurd (miss not_named 4 tt (opened k))
+not_named_lem present T.Buffer h out k = absurd (miss not_named 0 tt k)
+not_named_lem present T.Integer h out k = absurd (miss not_named 4 tt k)
 not_named_lem present T.BufferField h out k = refl
 not_named_lem present T.FieldUnit h out k = refl
 not_named_lem present T.Device h out k = refl
@@ -65,5 +64,5 @@ module _ (v : AmlValue) (s : List ℕ) (l : length s ≤ 65536) (wanted : AmlTyp
     pub type_buffer : wanted ≡ T.Buffer → (a : LengthAnswer) (t : List ℕ) → given a t ≡ as_buffer v s out → given_type (length_type a) t ≡ as_type v s wanted out
     type_buffer e a t g = ap length_given (g ∙ as_buffer_short v s l out) ∙ sym (type_other ∙ rw e)
 
-    pub type_none : Among not_named (tag_of the_type wanted) → as_type v s wanted out ≡ given_type (TA.Refused (no (type_of v) wanted)) out
+    pub type_none : OneOf not_named (tag_of the_type wanted) → as_type v s wanted out ≡ given_type (TA.Refused (no (type_of v) wanted)) out
     type_none k = type_other ∙ not_named_lem (type_of v) wanted (held_by v s) out k

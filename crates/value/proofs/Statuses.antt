@@ -5,8 +5,7 @@ use mathlib.Core.List.{List, [], ◌∷◌}
 use Prim.Native.Nat.{ℕ, ◌/◌, ◌%◌, ◌^◌, ◌≤◌, ◌<◌}
 use lib.Dec.{eqb}
 use denote.Enum.Declared.{tag_of}
-use types.Run.{miss}
-use borrow.Enum.Refused.{Among, opened}
+use types.Run.{OneOf, miss}
 use borrow.Author.Tests.{lt-ltb, le-ltb}
 use Rattle.bits.specs.Bits.{bit_of}
 use Rattle.bits.proofs.Laws.{bit_of_zero}
@@ -49,9 +48,9 @@ status_high n h = rw (le-ltb n 32 h)
 abbrev pub not_status : List ℕ
 not_status = 0 ∷ 2 ∷ 3 ∷ 4 ∷ 5 ∷ 6 ∷ 7 ∷ 8 ∷ 9 ∷ 10 ∷ 11 ∷ 12 ∷ 13 ∷ []
 
-pub no_status : (v : AmlValue) (s : List ℕ) → Among not_status (tag_of the_type v) → to_status (held_by v s) ≡ SA.Refused R.InvalidStatusObject
+pub no_status : (v : AmlValue) (s : List ℕ) → OneOf not_status (tag_of the_type v) → to_status (held_by v s) ≡ SA.Refused R.InvalidStatusObject
 unfolding to_status
-no_status (Val.Integer n) s k = absurd (miss not_status 1 tt (opened k))
+no_status (Val.Integer n) s k = absurd (miss not_status 1 tt k)
 no_status (Val.Boolean b) s k = refl
 no_status Val.String s k = refl
 no_status Val.Buffer s k = refl

@@ -1,6 +1,7 @@
 -- `buffer_field::write_buffer_field` meets its contract: each return is a case of writing, by the tests and the value's kind on the way to it.
 -- Assumes nothing.
 use mathlib.Core.Path.{◌∙◌}
+use borrow.Enum.Refused.{opened}
 use Rattle.buffer_field.proofs.Writing.{write_too_long, write_bytes_too_long, write_bits, write_nothing, writes_nothing}
 use Rattle.buffer_field.proofs.write_buffer_field.Goals as goal
 
@@ -26,4 +27,4 @@ returns-in-Buffer c =
     ∙ write_bits _ _ _ _ _ c.if-buffer-gt65536.false c.if-bytes-gt65536.false _ _ (rw c.in-Buffer.is)
 
 pub returns-in_default : goal.returns-in_default
-returns-in_default c = search (write_nothing, writes_nothing)
+returns-in_default c = search (write_nothing, writes_nothing, opened)

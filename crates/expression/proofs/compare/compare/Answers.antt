@@ -1,5 +1,6 @@
 -- `compare::compare` meets its contract: 27 of either side, then each kind of the left.
 -- Assumes nothing.
+use borrow.Enum.Refused.{opened}
 use Rattle.expression.proofs.Comparing.{left_long, right_long, left_boolean, left_integer, left_unit, left_string, left_buffer, left_other}
 use Rattle.expression.proofs.compare.compare.Goals as goal
 
@@ -25,4 +26,4 @@ pub returns-in-Buffer : goal.returns-in-Buffer
 returns-in-Buffer c = search left_buffer
 
 pub returns-in_default : goal.returns-in_default
-returns-in_default c = search left_other
+returns-in_default c = search (left_other, opened)

@@ -1,5 +1,6 @@
 -- `compare::compare_buffer` meets its contract: what to buffer refuses, or the bytes of both, a BufferField's from its own buffer.
 -- Assumes nothing.
+use borrow.Enum.Refused.{opened}
 use Rattle.expression.proofs.Comparing.{buffer_refused, buffer_compared, field_inside, field_compared}
 use Rattle.expression.proofs.compare.compare_buffer.Goals as goal
 
@@ -14,4 +15,4 @@ pub returns-in-BufferField : goal.returns-in-BufferField
 returns-in-BufferField c = search field_compared
 
 pub returns-in_default-right : goal.returns-in_default-right
-returns-in_default-right c = search buffer_compared
+returns-in_default-right c = search (buffer_compared, opened)

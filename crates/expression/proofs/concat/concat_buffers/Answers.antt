@@ -1,5 +1,9 @@
 -- `concat::concat_buffers` meets its contract: what to buffer refuses, 20, or both one behind the other.
 -- Assumes nothing.
+use mathlib.Core.Path.{◌≡◌, ◌∙◌}
+use native.Mathlib.Omega.{arith}
+use lib.ListN.{length}
+use Rattle.value.proofs.Giving.{fitted}
 use Rattle.expression.proofs.Joining.{buffers_refused, buffers_short, buffers_shorter, buffers_done}
 use Rattle.expression.proofs.concat.concat_buffers.Goals as goal
 
@@ -13,4 +17,7 @@ pub returns-then-out-left_bytes-2 : goal.returns-then-out-left_bytes-2
 returns-then-out-left_bytes-2 c = search buffers_shorter
 
 pub returns : goal.returns
-returns c = buffers_done c.args.left_bytes.now c.args.right c.args.right_bytes.now c.args.out.now c.requires _ c.buffer_length-counted.ensures _ c.in-Length.is c.if-out-left_bytes.false c.if-out-left_bytes-2.false _ c.copy-at.ensures.count _ c.copy-at.ensures.bytes _ _ c.as_buffer.ensures
+returns c =
+    let n : c.copy-at.result ≡ length c.args.left_bytes.now = omega (arith, c.copy-at.ensures.count) in
+    let t = c.copy-at.ensures.bytes ∙ fitted c.args.left_bytes.now c.args.out.now c.if-out-left_bytes.false in
+    buffers_done c.args.left_bytes.now c.args.right c.args.right_bytes.now c.args.out.now c.requires _ c.buffer_length-counted.ensures _ c.in-Length.is c.if-out-left_bytes.false c.if-out-left_bytes-2.false c.copy-at.result n c.copy-at.new.dst t _ _ c.as_buffer.ensures

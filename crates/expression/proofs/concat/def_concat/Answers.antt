@@ -1,5 +1,6 @@
 -- `concat::def_concat` meets its contract: 27 of either side, then each kind of the left.
 -- Assumes nothing.
+use borrow.Enum.Refused.{opened}
 use Rattle.expression.proofs.Joining.{concat_left_long, concat_right_long, concat_boolean, concat_integer, concat_buffer, concat_text}
 use Rattle.expression.proofs.concat.def_concat.Goals as goal
 
@@ -19,4 +20,4 @@ pub returns-in-Buffer : goal.returns-in-Buffer
 returns-in-Buffer c = search concat_buffer
 
 pub returns-in_default : goal.returns-in_default
-returns-in_default c = search concat_text
+returns-in_default c = search (concat_text, opened)

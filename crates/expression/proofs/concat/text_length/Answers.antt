@@ -1,5 +1,6 @@
 -- `concat::text_length` meets its contract: each arm is a kind of value, with a string, a name or neither.
 -- Assumes nothing.
+use borrow.Enum.Refused.{opened}
 use Rattle.expression.proofs.Naming.{counted_name}
 use Rattle.expression.proofs.concat.text_length.Goals as goal
 
@@ -16,4 +17,4 @@ pub returns-in-Buffer : goal.returns-in-Buffer
 returns-in-Buffer c = rw c.in-Buffer.is c.no_text-in-Buffer.ensures
 
 pub returns-in_default : goal.returns-in_default
-returns-in_default c = search counted_name
+returns-in_default c = search (counted_name, opened)

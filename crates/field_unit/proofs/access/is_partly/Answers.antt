@@ -6,6 +6,7 @@ use native.Mathlib.Omega.{arith}
 use lib.Dec.{ltb}
 use Rattle.field_unit.specs.Accesses.{keeps}
 use Rattle.field_unit.specs.Calls.{plan_of}
+use borrow.Enum.Refused.{opened}
 use Rattle.field_unit.proofs.Accepted.{facts_at, inside_at}
 use Rattle.field_unit.proofs.Answers.{not_true, not_false}
 use Rattle.field_unit.proofs.Parts.{not_kept}
@@ -18,7 +19,7 @@ returns-then-not-op c = sym (partly_read (plan_of c.args.op) c.args.u (not_true 
 pub returns-in_default : goal.returns-in_default
 returns-in_default c =
     let a = c.args in
-    sym (partly_overwrite (plan_of a.op) a.u (ap keeps (sym c.rule-rule.ensures) ∙ not_kept c.rule-rule.result c.in_default.in_default-own.keys2))
+    sym (partly_overwrite (plan_of a.op) a.u (ap keeps (sym c.rule-rule.ensures) ∙ not_kept c.rule-rule.result (opened c.in_default.in_default-own.keys2)))
 
 pub overflow_mul-base : goal.overflow_mul-base
 overflow_mul-base c =

@@ -1,6 +1,7 @@
 -- `answer::put_mid` meets its contract: what Mid refuses, or the part behind its letter.
 -- Assumes nothing.
 use Rattle.expression.specs.Mid.{mid}
+use borrow.Enum.Refused.{opened}
 use Rattle.script.proofs.Joining.{mid_refused, mid_part_lem, mid_most, other_letter}
 use lib.ListN.{length}
 use native.Mathlib.Omega.{arith}
@@ -31,4 +32,4 @@ returns-in-String c =
 pub returns-in_default-a : goal.returns-in_default-a
 returns-in_default-a c =
     let a = c.args in
-    rw (mid_part_lem (mid a.a a.s.now a.b a.t.now a.c a.u.now) _ c.def_mid-outcome.ensures c.in_default.is _ c.def_mid_part-part.ensures, other_letter a.a c.in_default-a.in_default-a-own.keys2) c.put_hex-in_default-a.ensures
+    rw (mid_part_lem (mid a.a a.s.now a.b a.t.now a.c a.u.now) _ c.def_mid-outcome.ensures c.in_default.is _ c.def_mid_part-part.ensures, other_letter a.a (opened c.in_default-a.in_default-a-own.keys2)) c.put_hex-in_default-a.ensures

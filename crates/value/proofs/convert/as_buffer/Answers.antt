@@ -1,6 +1,7 @@
 -- `value::convert::as_buffer` meets its contract: each return is the conversion of one kind of value.
 -- Assumes nothing.
 use mathlib.Core.Path.{sym, ◌∙◌}
+use borrow.Enum.Refused.{opened}
 use Rattle.value.proofs.Lent.{as_buffer_long, as_buffer_short}
 use Rattle.value.proofs.ByKind.{buffer_of_buffer, buffer_of_buffer_field, buffer_of_field_unit, no_buffer}
 use Rattle.value.proofs.Fields.{unit_no_buffer}
@@ -28,4 +29,4 @@ returns-in-Field c =
 pub returns-in_default : goal.returns-in_default
 returns-in_default c =
     rw (c.no.ensures, c.type_of.ensures)
-    (sym (as_buffer_short _ _ c.if-bytes-gt65536.false _ ∙ rw (no_buffer _ _ c.in_default.in_default-own.keys4) (giving_none _ _)))
+    (sym (as_buffer_short _ _ c.if-bytes-gt65536.false _ ∙ rw (no_buffer _ _ (opened c.in_default.in_default-own.keys4)) (giving_none _ _)))

@@ -1,6 +1,7 @@
 -- `value::convert::as_string` meets its contract: each return is the conversion of one kind of value.
 -- Assumes nothing.
 use mathlib.Core.Path.{sym, ◌∙◌}
+use borrow.Enum.Refused.{opened}
 use Rattle.value.proofs.Lent.{as_string_long, as_string_short}
 use Rattle.value.proofs.ByKind.{string_of_string, string_of_field_unit, no_string}
 use Rattle.value.proofs.Fields.{unit_no_string}
@@ -23,4 +24,4 @@ returns-in-Field c =
 pub returns-in_default : goal.returns-in_default
 returns-in_default c =
     rw (c.no.ensures, c.type_of.ensures)
-    (sym (as_string_short _ _ c.if-bytes-gt65536.false _ ∙ rw (no_string _ _ c.in_default.in_default-own.keys3) (giving_none _ _)))
+    (sym (as_string_short _ _ c.if-bytes-gt65536.false _ ∙ rw (no_string _ _ (opened c.in_default.in_default-own.keys3)) (giving_none _ _)))

@@ -2,6 +2,7 @@
 -- Assumes nothing.
 use mathlib.Core.Path.{sym, ap, ◌∙◌}
 use Rattle.types.specs.Values.{type_number_of}
+use borrow.Enum.Refused.{opened}
 use Rattle.value.proofs.Lent.{as_type_long}
 use Rattle.value.proofs.Named.{other, no_integer_yet, type_same, type_integer, type_buffer, type_none}
 use Rattle.value.proofs.convert.as_type.Goals as goal
@@ -40,4 +41,4 @@ returns-in_default c =
     let a = c.args in
     let differ = other a.value _ a.wanted _ _ c.type_of.ensures c.type_number.ensures c.type_number-2.ensures c.if-type_number.false in
     rw (c.no.ensures, c.type_of-in_default.ensures)
-    (sym (type_none a.value a.bytes.now c.if-bytes-gt65536.false a.wanted a.out.now differ c.in_default.in_default-own.keys3))
+    (sym (type_none a.value a.bytes.now c.if-bytes-gt65536.false a.wanted a.out.now differ (opened c.in_default.in_default-own.keys3)))

@@ -1,5 +1,6 @@
 -- `value::convert::buffer_length` meets its contract: each return is the conversion of one kind of value, counted.
 -- Assumes nothing.
+use borrow.Enum.Refused.{opened}
 use Rattle.value.proofs.Lengths.{buffer_long, buffer_of, buffer_of_field, buffer_of_unit, buffer_of_other}
 use Rattle.value.proofs.convert.buffer_length.Goals as goal
 
@@ -16,4 +17,4 @@ pub returns-in-Field : goal.returns-in-Field
 returns-in-Field c = search buffer_of_unit
 
 pub returns-in_default : goal.returns-in_default
-returns-in_default c = search buffer_of_other
+returns-in_default c = search (buffer_of_other, opened)

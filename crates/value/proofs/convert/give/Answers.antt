@@ -3,7 +3,7 @@
 use mathlib.Core.Path.{◌≡◌, sym}
 use native.Mathlib.Omega.{arith}
 use lib.ListN.{length}
-use Rattle.value.proofs.Giving.{giving_short, giving_these, copied}
+use Rattle.value.proofs.Giving.{giving_short, giving_these, copied, fitted}
 use Rattle.value.proofs.convert.give.Goals as goal
 
 pub returns-then-out-bytes : goal.returns-then-out-bytes
@@ -13,5 +13,5 @@ pub returns : goal.returns
 returns c =
     let a = c.args in
     let n : c.copy.result ≡ length a.bytes.now = omega (arith, c.copy.ensures.count) in
-    rw (n, c.copy.ensures.bytes, copied a.bytes.now a.out.now c.if-out-bytes.false)
+    rw (n, c.copy.ensures.bytes, fitted a.bytes.now a.out.now c.if-out-bytes.false, copied a.bytes.now a.out.now)
     (sym (giving_these a.bytes.now a.out.now c.if-out-bytes.false))

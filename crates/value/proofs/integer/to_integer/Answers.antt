@@ -1,6 +1,7 @@
 -- `value::integer::to_integer` meets its contract: each return is the conversion of one kind of value.
 -- Assumes nothing.
 use mathlib.Core.Path.{sym, ◌∙◌}
+use borrow.Enum.Refused.{opened}
 use Rattle.value.proofs.Lent.{def_to_integer_long, def_to_integer_short}
 use Rattle.value.proofs.ByKind.{parsed_integer, parsed_string, parsed_buffer, no_parsed}
 use Rattle.value.proofs.integer.to_integer.Goals as goal
@@ -24,4 +25,4 @@ pub returns-in_default : goal.returns-in_default
 returns-in_default c =
     let a = c.args in
     rw c.type_of.ensures
-    (sym (def_to_integer_short _ _ c.if-bytes-gt65536.false ∙ no_parsed a.value a.bytes.now c.in_default.in_default-own.keys4))
+    (sym (def_to_integer_short _ _ c.if-bytes-gt65536.false ∙ no_parsed a.value a.bytes.now (opened c.in_default.in_default-own.keys4)))
