@@ -114,6 +114,9 @@ def in_edit(text, names, known):
 
 
 def main():
+    if any(path.endswith("/Invariants.antt") for path in files(".antt")):
+        print("respell: it was run already: the proofs of functions have the toolchain's names now, which it does not know")
+        return 1
     names, known = own_names()
     changed = 0
     for path in files(".antt", ".rt", ".edit", ".md"):
@@ -132,6 +135,7 @@ def main():
             with open(path, "w", encoding="utf-8") as out:
                 out.write(text)
     print(f"respell: {len(names)} names, {changed} files")
+    return 0
 
 
 if __name__ == "__main__":
