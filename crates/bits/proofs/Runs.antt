@@ -113,6 +113,10 @@ splice_law s at m r n v h q =
     ∙ put_cut (bit_at s) (8 * at + r) n (8 * m - r) (bit_of v) k (omega arith))
     (λ a. sym (put_above (bit_at s) (8 * at + r) (min n (8 * m - r)) (bit_of v) k (omega arith))))
 
+pub splice8_law : (s : List ℕ) (at r n v : ℕ) → r < 64
+    → set_bits s (8 * at) 64 (run (put (bit_of (run (bit_at s) (8 * at) 64)) r n (bit_of v)) 0 64) ≡ set_bits s (8 * at + r) (min n (64 - r)) v
+splice8_law s at r n v q = splice_law s at 8 r n v (omega arith) q
+
 -- the low n bits of one byte
 pub splice_byte_law : (s : List ℕ) (i n v : ℕ) → n ≤ 8
     → set_bits s (8 * i) 8 (run (put (bit_of (run (bit_at s) (8 * i) 8)) 0 n (bit_of v)) 0 64) ≡ set_bits s (8 * i) n v

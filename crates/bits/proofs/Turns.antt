@@ -1,18 +1,19 @@
 -- Laws of runs of any length, moved 64 bits a turn: each turn makes eight bytes more what they are to be (write_turn, read_turn), the last
 -- what is left, as far as there is room (write_rest, read_rest). From the top down what is read was not yet written (self_turn).
 -- Assumes nothing.
-use mathlib.Core.Path.{◌≡◌, sym, ap, ◌∙◌}
+use mathlib.Core.Path.{◌≡◌, refl, sym, ap, ◌∙◌}
 use mathlib.Core.List.{List}
 use Prim.Native.Nat.{ℕ, ◌+◌, ◌-◌, ◌*◌, ◌/◌, ◌%◌, ◌^◌, ◌≤◌, ◌<◌, min, max}
-use native.Mathlib.Nat.{zero-add, add-zero, add-sub_of_le, sub-zero, sub_self}
+use native.Mathlib.Nat.{zero-add, add-zero, add-sub_of_le, sub-zero}
 use native.Mathlib.Omega.{arith}
 use lib.ListN.{length, get_or}
 use lib.Bits.{bit_or}
 use lib.Pow.{shr-shr}
 use Rattle.bits.specs.Bits.{bit_of, bit_at, run, put, from, with_bits, set_bits, run_bits, bytes_for}
-use Rattle.bits.proofs.Laws.{lt_cases, bit_of_lt, bit_of_high, bit_at_lt, bit_at_byte, bit_at_end, run_ext, run_bit, run_high, run_shr, put_in, put_below, put_above, put_cases, put_lt}
-use Rattle.bits.proofs.Words.{bit_of_or, bit_of_shl, bit_of_shl_low}
-use Rattle.bits.proofs.With.{with_bits_length, with_bits_bit, with_bits_ext, with_bits_cong, with_bits_none, with_bits_end, with_bits_join, with_bits_front}
+use Rattle.bits.proofs.Laws.{lt_cases, bit_of_high, bit_at_lt, bit_at_byte, bit_at_end, run_ext, run_bit, run_high, run_shr, put_in, put_below, put_above, put_cases, put_lt}
+use Rattle.std.specs.Int.{w64, to_le_bytes}
+use Rattle.bits.proofs.Words.{number_bit, bit_of_or, bit_of_shl, bit_of_shl_low}
+use Rattle.bits.proofs.With.{with_bits_bit, with_bits_ext, with_bits_cong, with_bits_end, with_bits_join, with_bits_front}
 
 -- bit 8 * j of a run from o on, as code has it
 place : (o j : ℕ) → 8 * (o / 8 + j) + o % 8 ≡ o + 8 * j
@@ -45,13 +46,14 @@ carry_first t s o n =
     (λ i l. rw (zero-add i)
     (sym (bit_at_byte t (o / 8) i (omega arith)) ∙ sym (put_below (bit_at t) o n (bit_at s) (8 * (o / 8) + i) (omega arith)))))
 
-pub carry_next : (t s : List ℕ) (o n j : ℕ) → 8 * (j + 8) ≤ n
-    → run (bit_at s) (8 * j) 64 / 2 ^ 1 / 2 ^ (63 - o % 8) ≡ run (goal t s o n) (8 * (o / 8 + (j + 8))) (o % 8)
-carry_next t s o n j h =
+pub carry_next : (t s : List ℕ) (o n k : ℕ) → 8 * (8 * k + 8) ≤ n
+    → run (bit_at s) (8 * (8 * k)) 64 / 2 ^ 1 / 2 ^ (63 - o % 8) ≡ run (goal t s o n) (8 * (o / 8 + 8 * (k + 1))) (o % 8)
+carry_next t s o n k h =
+    let j = 8 * k in
     let r = o % 8 in
     let e : 1 + (63 - r) ≡ 64 - r = omega arith in
     let e2 : 64 ≡ 64 - r + r = omega arith in
-    let e3 : 8 * (o / 8 + (j + 8)) ≡ o + (8 * j + (64 - r)) = omega arith in
+    let e3 : 8 * (o / 8 + 8 * (k + 1)) ≡ o + (8 * j + (64 - r)) = omega arith in
     shr-shr (run (bit_at s) (8 * j) 64) 1 (63 - r)
     ∙ ap (λ (k : ℕ). run (bit_at s) (8 * j) 64 / 2 ^ k) e
     ∙ ap (λ (k : ℕ). run (bit_at s) (8 * j) k / 2 ^ (64 - r)) e2
@@ -81,9 +83,9 @@ module _ (t s : List ℕ) (o n j c : ℕ) (e : c ≡ run (goal t s o n) (8 * (o 
       ∙ sym (goal_in t s o n (8 * j) (i - o % 8) (omega arith)) ∙ ap (goal t s o n) p in
       omega arith))
 
-  pub write_turn : 8 * (j + 8) ≤ n
+  turn : 8 * (j + 8) ≤ n
       → set_bits (ahead t s o n j) (8 * (o / 8 + j)) 64 (bit_or c (run (bit_at s) (8 * j) 64 * 2 ^ (o % 8) % 2 ^ 64)) ≡ ahead t s o n (j + 8)
-  write_turn h =
+  turn h =
       let w = bit_or c (run (bit_at s) (8 * j) 64 * 2 ^ (o % 8) % 2 ^ 64) in
       let p : 8 * (o / 8 + j) ≡ 8 * (o / 8) + 8 * j = omega arith in
       let q : 8 * j + 64 ≡ 8 * (j + 8) = omega arith in
@@ -93,8 +95,8 @@ module _ (t s : List ℕ) (o n j c : ℕ) (e : c ≡ run (goal t s o n) (8 * (o 
       ∙ ap (λ (k : ℕ). with_bits t (8 * (o / 8)) k (from (goal t s o n) (8 * (o / 8)))) q
 
   -- the bits carried at last stand where they belong
-  pub write_carry : 8 * j ≤ n → set_bits (ahead t s o n j) (8 * (o / 8 + j)) (o % 8) c ≡ with_bits t o (8 * j) (bit_at s)
-  write_carry h =
+  carry : 8 * j ≤ n → set_bits (ahead t s o n j) (8 * (o / 8 + j)) (o % 8) c ≡ with_bits t o (8 * j) (bit_at s)
+  carry h =
       let p : 8 * (o / 8 + j) ≡ 8 * (o / 8) + 8 * j = omega arith in
       ap (λ (k : ℕ). set_bits (ahead t s o n j) k (o % 8) c) p
       ∙ with_bits_join t (8 * (o / 8)) (8 * j) (o % 8) (from (goal t s o n) (8 * (o / 8))) (bit_of c) (λ k. goal_lt t s o n (8 * (o / 8) + k))
@@ -115,6 +117,16 @@ module _ (t s : List ℕ) (o n j c : ℕ) (e : c ≡ run (goal t s o n) (8 * (o 
           (λ q r. sym (put_in (bit_at t) o (8 * j) (bit_at s) k q (omega arith)))
           (λ q. let no : ⊥ = omega arith in absurd no))
           (λ a. sym (put_above (bit_at t) o (8 * j) (bit_at s) k (omega arith)))
+
+pub write_turn : (t s : List ℕ) (o n k c : ℕ) → c ≡ run (goal t s o n) (8 * (o / 8 + 8 * k)) (o % 8) → 8 * (8 * k + 8) ≤ n
+    → set_bits (ahead t s o n (8 * k)) (8 * (o / 8 + 8 * k)) 64 (bit_or c (run (bit_at s) (8 * (8 * k)) 64 * 2 ^ (o % 8) % 2 ^ 64)) ≡ ahead t s o n (8 * (k + 1))
+write_turn t s o n k c e h =
+    let w : 8 * (k + 1) ≡ 8 * k + 8 = omega arith in
+    rw w (turn t s o n (8 * k) c e h)
+
+pub write_carry : (t s : List ℕ) (o n k c : ℕ) → c ≡ run (goal t s o n) (8 * (o / 8 + 8 * k)) (o % 8) → 8 * (8 * k) ≤ n
+    → set_bits (ahead t s o n (8 * k)) (8 * (o / 8 + 8 * k)) (o % 8) c ≡ with_bits t o (8 * (8 * k)) (bit_at s)
+write_carry t s o n k c e h = carry t s o n (8 * k) c e h
 
 write_next : (t s : List ℕ) (o d m : ℕ) → m ≤ 64 → set_bits (with_bits t o d (bit_at s)) (o + d) m (run (bit_at s) d 64) ≡ with_bits t o (d + m) (bit_at s)
 write_next t s o d m h =
@@ -157,11 +169,12 @@ read_next t s o n d m k h r =
     run_bit (bit_at s) (bit_at_lt s) (o + d) k i q ∙ ap (bit_at s) e ∙ sym (run_bits_in s o n (d + i) (omega arith)))
     (λ q. run_high (bit_at s) (bit_at_lt s) (o + d) k i q ∙ sym (run_bits_above s o n (d + i) (r i l q)))))
 
-pub read_turn : (t s : List ℕ) (o n j : ℕ) → j + 8 ≤ n / 8
-    → set_bits (with_bits t 0 (8 * j) (run_bits s o n)) (8 * j) 64 (run (bit_at s) (8 * (o / 8 + j) + o % 8) 64) ≡ with_bits t 0 (8 * (j + 8)) (run_bits s o n)
-read_turn t s o n j h =
-    let e : 8 * (j + 8) ≡ 8 * j + 64 = omega arith in
-    rw (place o j, e) (read_next t s o n (8 * j) 64 64 (omega arith) (λ i l q. omega arith))
+pub read_turn : (t s : List ℕ) (o n k : ℕ) → 8 * k + 8 ≤ n / 8
+    → set_bits (with_bits t 0 (8 * (8 * k)) (run_bits s o n)) (8 * (8 * k)) 64 (run (bit_at s) (8 * (o / 8 + 8 * k) + o % 8) 64)
+    ≡ with_bits t 0 (8 * (8 * (k + 1))) (run_bits s o n)
+read_turn t s o n k h =
+    let e : 8 * (8 * (k + 1)) ≡ 8 * (8 * k) + 64 = omega arith in
+    rw (place o (8 * k), e) (read_next t s o n (8 * (8 * k)) 64 64 (omega arith) (λ i l q. omega arith))
 
 -- eight bytes at most are left, and there is room for them
 pub few : (n j k : ℕ) → j ≤ min (n / 8) k → min (n / 8) k < j + 8 → (min (bytes_for n) k - j ≤ 8) × (min (bytes_for n) k - j ≤ k - j)
@@ -214,15 +227,11 @@ self_next s o n d m h l q =
     (λ i a. run_bit (bit_at u) (bit_at_lt u) d 64 i (omega arith) ∙ upper_bit s o n (d + m) (d + i) (omega arith) q)
     ∙ ap (λ (k : ℕ). with_bits s (o + d) k (from (bit_at s) d)) e2
 
--- at first, none
-pub self_none : (s : List ℕ) (o d : ℕ) → ((j : ℕ) → get_or s j 0 < 256) → s ≡ upper s o d d
-self_none s o d b = rw (sub_self d) (sym (with_bits_none s (o + d) (from (bit_at s) d) b))
-
-pub self_turn : (s : List ℕ) (o n j : ℕ) → 8 ≤ j → 8 * j ≤ n → j ≤ length s
-    → set_bits (upper s o n (8 * j)) (8 * (o / 8 + (j - 8)) + o % 8) 64 (run (bit_at (upper s o n (8 * j))) (8 * (j - 8)) 64) ≡ upper s o n (8 * (j - 8))
-self_turn s o n j h l q =
-    let e : 8 * j ≡ 8 * (j - 8) + 64 = omega arith in
-    rw (place o (j - 8), e) (self_next s o n (8 * (j - 8)) 64 (omega arith) (omega arith) (omega arith))
+pub self_turn : (s : List ℕ) (o n j i : ℕ) → i + 8 ≡ j → 8 * j ≤ n → j ≤ length s
+    → set_bits (upper s o n (8 * j)) (8 * (o / 8 + i) + o % 8) 64 (run (bit_at (upper s o n (8 * j))) (8 * i) 64) ≡ upper s o n (8 * i)
+self_turn s o n j i h l q =
+    let e : 8 * j ≡ 8 * i + 64 = omega arith in
+    rw (place o i, e) (self_next s o n (8 * i) 64 (omega arith) (omega arith) (omega arith))
 
 pub self_rest : (s : List ℕ) (o n j : ℕ) → j < 8 → 8 * j ≤ n → j ≤ length s
     → set_bits (upper s o n (8 * j)) (8 * (o / 8) + o % 8) (8 * j) (run (bit_at (upper s o n (8 * j))) 0 64) ≡ with_bits s o n (bit_at s)
@@ -235,9 +244,9 @@ self_rest s o n j h l q =
 
 -- ---- a number's bits, as eight bytes
 
-pub eight_bytes : (z s : List ℕ) (o n v : ℕ) → length z ≡ 8 → v < 2 ^ 64 → with_bits s o n (bit_at (set_bits z 0 64 v)) ≡ set_bits s o n v
-eight_bytes z s o n v e b =
-    with_bits_cong s o n (bit_at (set_bits z 0 64 v)) (bit_of v)
-    (λ i _. lt_cases i 64 (bit_at (set_bits z 0 64 v) i ≡ bit_of v i)
-    (λ q. with_bits_bit z 0 64 (bit_of v) (bit_of_lt v) i (omega arith) ∙ put_in (bit_at z) 0 64 (bit_of v) i (omega arith) (omega arith) ∙ ap (bit_of v) (sub-zero i))
-    (λ q. bit_at_end (set_bits z 0 64 v) i (omega (arith, with_bits_length z 0 64 (bit_of v))) ∙ sym (bit_of_high v 64 i b q)))
+pub eight_bytes : (s : List ℕ) (o n v : ℕ) → v < 2 ^ 64 → with_bits s o n (bit_at (to_le_bytes w64 v)) ≡ set_bits s o n v
+eight_bytes s o n v b =
+    with_bits_cong s o n (bit_at (to_le_bytes w64 v)) (bit_of v)
+    (λ i _. lt_cases i 64 (bit_at (to_le_bytes w64 v) i ≡ bit_of v i)
+    (λ q. number_bit v (to_le_bytes w64 v) i refl q)
+    (λ q. bit_at_end (to_le_bytes w64 v) i q ∙ sym (bit_of_high v 64 i b q)))

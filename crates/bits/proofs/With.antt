@@ -3,11 +3,11 @@
 -- Assumes nothing.
 use mathlib.Core.Path.{◌≡◌, refl, sym, ap, ◌∙◌}
 use mathlib.Core.List.{List}
-use Prim.Native.Nat.{ℕ, ◌+◌, ◌-◌, ◌*◌, ◌/◌, ◌%◌, ◌≤◌, ◌<◌, min}
+use Prim.Native.Nat.{ℕ, ◌+◌, ◌-◌, ◌*◌, ◌≤◌, ◌<◌, min}
 use native.Mathlib.Nat.{zero-add, add-sub_cancel_left}
 use native.Mathlib.Omega.{arith}
 use lib.ListN.{length, get_or, set, length-set}
-use lib.Seq.{ext_get_or, get_or-set_same, get_or-set_other}
+use lib.Seq.{ext_get_or}
 use Rattle.bits.specs.Bits.{bit_of, bit_at, run, bytes, put, from, with_bits, set_bits}
 use Rattle.bits.proofs.Laws.{lt_cases, eq_cases, bit_of_lt, bit_at_lt, bit_at_byte, run_ext, run_mod, run_byte, put_in, put_below, put_above, put_cases, put_lt, put_cong, put_over, put_shift, bytes_length, bytes_at, bit_at_bytes, bytes_ext}
 
@@ -109,6 +109,9 @@ with_bits_none s o g b =
     ext_get_or 0 (with_bits s o 0 g) s (with_bits_length s o 0 g)
     (λ j l. with_bits_kept s o 0 g j (omega (arith, with_bits_length s o 0 g)) (b j) (λ i q p r. omega arith))
 
+pub with_bits_zero : (s : List ℕ) (o n : ℕ) (g : ℕ → ℕ) → ((j : ℕ) → get_or s j 0 < 256) → n ≡ 0 → s ≡ with_bits s o n g
+with_bits_zero s o n g b e = rw e (sym (with_bits_none s o g b))
+
 -- nor where the run starts past the end
 pub with_bits_past : (s : List ℕ) (o n : ℕ) (g : ℕ → ℕ) → ((j : ℕ) → get_or s j 0 < 256) → 8 * length s ≤ o → s ≡ with_bits s o n g
 with_bits_past s o n g b h = sym (with_bits_none s o g b) ∙ with_bits_cut s o 0 n g (omega arith) (omega arith)
@@ -144,34 +147,3 @@ get_same s o n g b h =
     with_bits_bit s o n g b (o + i) (omega arith)
     ∙ put_in (bit_at s) o n g (o + i) (omega arith) (omega arith)
     ∙ ap g (add-sub_cancel_left o i ∙ sym (zero-add i)))
-
--- ---- one byte
-
--- a write inside one byte is a store of that byte
-pub set_bits_chunk : (s : List ℕ) (o n v : ℕ) → ((j : ℕ) → get_or s j 0 < 256) → o % 8 + n ≤ 8 → o / 8 < length s
-    → set s (o / 8) (run (put (bit_of (get_or s (o / 8) 0)) (o % 8) n (bit_of v)) 0 8) ≡ set_bits s o n v
-set_bits_chunk s o n v b h l =
-    let y = run (put (bit_of (get_or s (o / 8) 0)) (o % 8) n (bit_of v)) 0 8 in
-    let whole : 8 * (o / 8) + o % 8 ≡ o = omega arith in
-    let same : y ≡ get_or (set_bits s o n v) (o / 8) 0 =
-    run_ext (put (bit_of (get_or s (o / 8) 0)) (o % 8) n (bit_of v)) (put (bit_at s) o n (bit_of v)) 0 (8 * (o / 8)) 8
-    (λ i q. rw (zero-add i) (put_shift (bit_of (get_or s (o / 8) 0)) (bit_at s) (8 * (o / 8)) (o % 8) n (bit_of v) i (sym (bit_at_byte s (o / 8) i q))
-    ∙ ap (λ (p : ℕ). put (bit_at s) p n (bit_of v) (8 * (o / 8) + i)) whole))
-    ∙ sym (with_bits_at s o n (bit_of v) (o / 8) l) in
-    ext_get_or 0 (set s (o / 8) y) (set_bits s o n v) (length-set s (o / 8) y ∙ sym (with_bits_length s o n (bit_of v)))
-    (λ j q.
-    eq_cases j (o / 8) (get_or (set s (o / 8) y) j 0 ≡ get_or (set_bits s o n v) j 0)
-    (λ e. rw e (get_or-set_same s (o / 8) y 0 l ∙ same))
-    (λ d. get_or-set_other s (o / 8) j y 0 d
-    ∙ sym (with_bits_kept s o n (bit_of v) j (omega (arith, length-set s (o / 8) y)) (b j) (λ i a p r. omega arith))))
-
--- a whole byte
-pub set_bits_byte : (s : List ℕ) (at v : ℕ) → ((j : ℕ) → get_or s j 0 < 256) → at < length s → set s at (v % 256) ≡ set_bits s (8 * at) 8 v
-set_bits_byte s at v b h =
-    let e : 8 * at / 8 ≡ at = omega arith in
-    let z : 8 * at % 8 ≡ 0 = omega arith in
-    let g = bit_of (get_or s at 0) in
-    let r : run (put g 0 8 (bit_of v)) 0 8 ≡ v % 256 =
-    run_ext (put g 0 8 (bit_of v)) (bit_of v) 0 0 8 (λ i l. rw (zero-add i) (put_in g 0 8 (bit_of v) i (omega arith) (omega arith) ∙ ap (bit_of v) (native.Mathlib.Nat.sub-zero i))) ∙ run_mod v 8 in
-    let c = set_bits_chunk s (8 * at) 8 v b (omega arith) (omega arith) in
-    ap (set s at) (sym r) ∙ (rw (e, z) at c)

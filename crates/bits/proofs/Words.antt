@@ -4,14 +4,19 @@
 use mathlib.Core.Path.{◌≡◌, refl, sym, ap, ◌∙◌}
 use mathlib.Core.List.{List}
 use Prim.Native.Nat.{ℕ, zero, suc, ◌+◌, ◌-◌, ◌*◌, ◌/◌, ◌%◌, ◌^◌, ◌≤◌, ◌<◌, min, max}
-use native.Mathlib.Nat.{pow-suc, zero-add, one-mul, mul_assoc, mod-lt, add_comm, sub-zero, sub-add_cancel, add-sub_of_le, lt_of_le_of_lt, lt_of_lt_of_le}
+use native.Mathlib.Nat.{pow-suc, zero-add, div-one, one-mul, mul_assoc, mod-lt, add_comm, sub-zero, sub-add_cancel, add-sub_of_le, lt_of_le_of_lt, lt_of_lt_of_le}
 use native.Mathlib.Omega.{arith}
-use lib.ListN.{length}
+use lib.ListN.{length, get_or, take, drop}
+use lib.Seq.{ext_get_or}
+use Rattle.std.specs.Prelude.{◌++◌, ◌∷◌, []}
+use Rattle.std.specs.Int.{w64, from_le_bytes, to_le_bytes}
+use Rattle.std.proofs.lemmas.Nat.{le_bytes_8}
+use Rattle.std.proofs.lemmas.Grind.{common_steps}
 use lib.Bits.{bit_and, bit_or, bit_xor, differ, and_step, or_step, xor_step, and_shr, or_shr, xor_shr, or_lt, xor_lt, and_le_r, and_mask}
 use lib.Pow.{pow_pos, pow-add, pow_mono, pow-lt, shl_exact, shl_lt, shl-shr, shr-shr, high, ones_split}
 use Rattle.bits.specs.Bits.{bit_of, bit_at, run, put, set_bits}
-use Rattle.bits.proofs.Laws.{lt_cases, bit_of_lt, bit_of_high, bit_of_shift, bit_at_lt, bit_at_end, run_lt, run_below, run_bit, run_high, run_whole, run_eq, run_mod, run_more, put_cases}
-use Rattle.bits.proofs.With.{with_bits_end, with_bits_over}
+use Rattle.bits.proofs.Laws.{lt_cases, bit_of_lt, bit_of_none, bit_of_high, bit_of_shift, bit_at_lt, bit_at_end, run_lt, run_below, run_bit, run_high, run_whole, run_eq, run_mod, run_more, run_ext, put_in, put_cases}
+use Rattle.bits.proofs.With.{with_bits_at, with_bits_end, with_bits_kept, with_bits_length, with_bits_over}
 
 -- ---- bits of and, or, xor, of a remainder and of a shift to the left
 
@@ -212,12 +217,116 @@ store_law s at i d m v h q =
     let e2 : 8 * (d + m) ≡ 8 * d + 8 * m = omega arith in
     rw (e, e2) (with_bits_over s (8 * at) (8 * i) (8 * d) (8 * m) (bit_of v) (bit_of (v / 2 ^ (8 * d))) (omega arith) (omega arith) (bit_of_lt v) (λ j _. bit_of_shift v (8 * d) j))
 
+-- byte i of a number's eight
+run_at : (v d n : ℕ) → run (bit_of v) d n ≡ v / 2 ^ d % 2 ^ n
+run_at v d n = run_ext (bit_of v) (bit_of (v / 2 ^ d)) d 0 n (λ i l. rw (zero-add i) (sym (bit_of_shift v d i))) ∙ run_mod (v / 2 ^ d) n
+
+le_byte : (v i : ℕ) → i < 8 → get_or (to_le_bytes w64 v) i 0 ≡ run (bit_of v) (8 * i) 8
+le_byte v zero h = rw (run_at v 0 8, div-one v)
+le_byte v (suc zero) h = sym (run_at v 8 8)
+le_byte v (suc (suc zero)) h = sym (run_at v 16 8)
+le_byte v (suc (suc (suc zero))) h = sym (run_at v 24 8)
+le_byte v (suc (suc (suc (suc zero)))) h = sym (run_at v 32 8)
+le_byte v (suc (suc (suc (suc (suc zero))))) h = sym (run_at v 40 8)
+le_byte v (suc (suc (suc (suc (suc (suc zero)))))) h = sym (run_at v 48 8)
+le_byte v (suc (suc (suc (suc (suc (suc (suc zero))))))) h = sym (run_at v 56 8)
+le_byte v (suc (suc (suc (suc (suc (suc (suc (suc i)))))))) h = let no : ⊥ = omega arith in absurd no
+
+-- of three parts, each read where it stands
+part_low : (s b : List ℕ) (at n j : ℕ) → at + n ≤ length s → j < at → get_or (take at s ++ (take n b ++ drop n (drop at s))) j 0 ≡ get_or s j 0
+part_low s b at n j l h = grind (arith, common_steps)
+
+part_mid : (s b : List ℕ) (at n j : ℕ) → at + n ≤ length s → n ≤ length b → at ≤ j → j < at + n → get_or (take at s ++ (take n b ++ drop n (drop at s))) j 0 ≡ get_or b (j - at) 0
+part_mid s b at n j l m h q = grind (arith, common_steps)
+
+part_high : (s b : List ℕ) (at n j : ℕ) → at + n ≤ length s → n ≤ length b → at + n ≤ j → get_or (take at s ++ (take n b ++ drop n (drop at s))) j 0 ≡ get_or s j 0
+part_high s b at n j l m h = grind (arith, common_steps)
+
+part_length : (s b : List ℕ) (at n : ℕ) → at + n ≤ length s → n ≤ length b → length (take at s ++ (take n b ++ drop n (drop at s))) ≡ length s
+part_length s b at n l m = grind (arith, common_steps)
+
+-- n bytes put between those before and those behind
+pub store_part : (s : List ℕ) (at n v : ℕ) → ((j : ℕ) → get_or s j 0 < 256) → n ≤ 8 → at + n ≤ length s
+    → take at s ++ (take n (to_le_bytes w64 v) ++ drop n (drop at s)) ≡ set_bits s (8 * at) (8 * n) v
+store_part s at n v b h l =
+    let t = take at s ++ (take n (to_le_bytes w64 v) ++ drop n (drop at s)) in
+    let g = bit_of v in
+    ext_get_or 0 t (set_bits s (8 * at) (8 * n) v) (part_length s (to_le_bytes w64 v) at n l h ∙ sym (with_bits_length s (8 * at) (8 * n) g))
+    (λ j q.
+    let q2 : j < length s = omega (arith, part_length s (to_le_bytes w64 v) at n l h) in
+    lt_cases j at (get_or t j 0 ≡ get_or (set_bits s (8 * at) (8 * n) v) j 0)
+    (λ a. part_low s (to_le_bytes w64 v) at n j l a ∙ sym (with_bits_kept s (8 * at) (8 * n) g j q2 (b j) (λ i c d e. omega arith)))
+    (λ a. lt_cases j (at + n) (get_or t j 0 ≡ get_or (set_bits s (8 * at) (8 * n) v) j 0)
+    (λ d. part_mid s (to_le_bytes w64 v) at n j l h a d
+    ∙ le_byte v (j - at) (omega arith)
+    ∙ run_ext g (put (bit_at s) (8 * at) (8 * n) g) (8 * (j - at)) (8 * j) 8
+    (λ i c. let w : 8 * (j - at) + i ≡ 8 * j + i - 8 * at = omega arith in ap g w ∙ sym (put_in (bit_at s) (8 * at) (8 * n) g (8 * j + i) (omega arith) (omega arith)))
+    ∙ sym (with_bits_at s (8 * at) (8 * n) g j q2))
+    (λ d. part_high s (to_le_bytes w64 v) at n j l h d ∙ sym (with_bits_kept s (8 * at) (8 * n) g j q2 (b j) (λ i c e f. omega arith)))))
+
+-- n bytes of s, and zeros above them
+abbrev zeros : List ℕ
+zeros = 0 ∷ 0 ∷ 0 ∷ 0 ∷ 0 ∷ 0 ∷ 0 ∷ 0 ∷ []
+
+abbrev padded : List ℕ → ℕ → ℕ → List ℕ
+padded s at n = take n (drop at s) ++ drop n zeros
+
+zeros_at : (i : ℕ) → get_or zeros i 0 ≡ 0
+zeros_at i = grind (arith, common_steps)
+
+padded_low : (s : List ℕ) (at n i : ℕ) → at + n ≤ length s → i < n → get_or (padded s at n) i 0 ≡ get_or s (at + i) 0
+padded_low s at n i l h = grind (arith, common_steps)
+
+padded_high : (s : List ℕ) (at n i : ℕ) → at + n ≤ length s → n ≤ i → get_or (padded s at n) i 0 ≡ 0
+padded_high s at n i l h = grind (arith, common_steps, zeros_at)
+
+padded_length : (s : List ℕ) (at n : ℕ) → at + n ≤ length s → n ≤ 8 → length (padded s at n) ≡ 8
+padded_length s at n l h = grind (arith, common_steps)
+
+padded_byte : (s : List ℕ) (at n i : ℕ) → ((j : ℕ) → get_or s j 0 < 256) → at + n ≤ length s → get_or (padded s at n) i 0 < 256
+padded_byte s at n i b l =
+    lt_cases i n (get_or (padded s at n) i 0 < 256)
+    (λ h. rw (padded_low s at n i l h) (b (at + i)))
+    (λ h. rw (padded_high s at n i l h) (omega arith))
+
+-- the bits of a number are those of its eight bytes
+pub number_bit : (x : ℕ) (t : List ℕ) (i : ℕ) → to_le_bytes w64 x ≡ t → i < 64 → bit_at t i ≡ bit_of x i
+unfolding bit_at
+number_bit x t i e h =
+    let w : 8 * (i / 8) + i % 8 ≡ i = omega arith in
+    ap (λ (u : List ℕ). bit_of (get_or u (i / 8) 0) (i % 8)) (sym e)
+    ∙ ap (λ (y : ℕ). bit_of y (i % 8)) (le_byte x (i / 8) (omega arith))
+    ∙ run_bit (bit_of x) (bit_of_lt x) (8 * (i / 8)) 8 (i % 8) (omega arith) ∙ ap (bit_of x) w
+
+padded_bit : (s : List ℕ) (at n i : ℕ) → at + n ≤ length s → i < 8 * n → bit_at (padded s at n) i ≡ bit_at s (8 * at + i)
+unfolding bit_at
+padded_bit s at n i l h =
+    let e : (8 * at + i) / 8 ≡ at + i / 8 = omega arith in
+    let e2 : (8 * at + i) % 8 ≡ i % 8 = omega arith in
+    rw (padded_low s at n (i / 8) l (omega arith), e, e2)
+
+padded_none : (s : List ℕ) (at n i : ℕ) → at + n ≤ length s → 8 * n ≤ i → bit_at (padded s at n) i ≡ 0
+unfolding bit_at
+padded_none s at n i l h = rw (padded_high s at n (i / 8) l (omega arith)) (bit_of_none (i % 8))
+
+pub load_part : (s : List ℕ) (at n x : ℕ) → ((j : ℕ) → get_or s j 0 < 256) → n ≤ 8 → at + n ≤ length s
+    → x < 2 ^ 64 → x ≡ from_le_bytes w64 (take n (drop at s) ++ drop n (0 ∷ 0 ∷ 0 ∷ 0 ∷ 0 ∷ 0 ∷ 0 ∷ 0 ∷ [])) → x ≡ run (bit_at s) (8 * at) (8 * n)
+load_part s at n x b h l q e =
+    let t = padded s at n in
+    let f : to_le_bytes w64 x ≡ t = le_bytes_8 t x (padded_length s at n l h) (λ i. padded_byte s at n i b l) e in
+    let w : 8 * n + (64 - 8 * n) ≡ 64 = omega arith in
+    sym (run_whole x 64 q)
+    ∙ run_ext (bit_of x) (bit_at t) 0 0 64 (λ i c. rw (zero-add i) (sym (number_bit x t i f c)))
+    ∙ ap (run (bit_at t) 0) (sym w)
+    ∙ sym (run_more (bit_at t) 0 (8 * n) (64 - 8 * n) (λ k c. padded_none s at n k l (omega arith)))
+    ∙ run_ext (bit_at t) (bit_at s) 0 (8 * at) (8 * n) (λ i c. rw (zero-add i) (padded_bit s at n i l c))
+
 -- n bytes by two accesses of w, at both ends
-pub load_two : (s : List ℕ) (at n w : ℕ) → w ≤ n → n ≤ w + w → n ≤ 8
-    → bit_or (run (bit_at s) (8 * at) (8 * w)) (run (bit_at s) (8 * (at + (n - w))) (8 * w) * 2 ^ (8 * (n - w)) % 2 ^ 64) ≡ run (bit_at s) (8 * at) (8 * n)
-load_two s at n w h q l =
-    let e : n - w + w ≡ n = sub-add_cancel h in
-    rw e at (load_law s at w (n - w) w (omega arith) (omega arith) (omega arith))
+pub load_two : (s : List ℕ) (at n w x y : ℕ) → w ≤ n → n ≤ w + w → n ≤ 8
+    → x ≡ run (bit_at s) (8 * at) (8 * w) → y ≡ run (bit_at s) (8 * (at + (n - w))) (8 * w) → bit_or x (y * 2 ^ (8 * (n - w)) % 2 ^ 64) ≡ run (bit_at s) (8 * at) (8 * n)
+load_two s at n w x y h q l e d =
+    let f : n - w + w ≡ n = sub-add_cancel h in
+    rw (e, d) (rw f at (load_law s at w (n - w) w (omega arith) (omega arith) (omega arith)))
 
 pub store_two : (s : List ℕ) (at n w v : ℕ) → w ≤ n → n ≤ w + w
     → set_bits (set_bits s (8 * at) (8 * w) v) (8 * (at + (n - w))) (8 * w) (v / 2 ^ (8 * (n - w))) ≡ set_bits s (8 * at) (8 * n) v

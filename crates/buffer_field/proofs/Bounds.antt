@@ -2,17 +2,15 @@
 -- Assumes nothing.
 use mathlib.Core.Path.{◌≡◌, sym, ◌∙◌}
 use mathlib.Core.Bool.{Bool, true, false}
-use mathlib.Core.List.{List}
 use Prim.Native.Nat.{ℕ, ◌+◌, ◌-◌, ◌*◌, ◌≤◌, ◌<◌}
 use native.Mathlib.Omega.{arith}
 use lib.Dec.{ltb}
-use lib.ListN.{length}
-use borrow.Author.Tests.{lt-ltb, le-ltb, ltb-false}
+use borrow.Author.Tests.{lt-ltb, le-ltb}
 use Rattle.bits.proofs.Laws.{lt_cases}
 use Rattle.types.specs.Refusals.{first_of}
 use Rattle.types.specs.declared.refusal.Refusal.TheVariants as R
-use Rattle.types.specs.declared.refusal.Outcome.TheVariants as O
-use Rattle.buffer_field.specs.BufferFields.{out_of_bounds, bounds_checks}
+use Rattle.std.specs.Prelude.{Ok, Err}
+use Rattle.buffer_field.specs.BufferFields.{bounds_checks}
 
 pub long_outside : (bits o n : ℕ) → bits < n → true ≡ ltb bits (o + n)
 long_outside bits o n h = sym (lt-ltb bits (o + n) (omega arith))
@@ -23,21 +21,17 @@ far_outside bits o n h =
     (λ l. lt-ltb (bits - n) o l ∙ sym (lt-ltb bits (o + n) (omega arith)))
     (λ l. le-ltb (bits - n) o l ∙ sym (le-ltb bits (o + n) (omega arith)))
 
--- a field that was not refused lies in the buffer
-pub inside : (s : List ℕ) (o n : ℕ) (b : Bool) → b ≡ out_of_bounds s o n → b ≡ false → o + n ≤ 8 * length s
-inside s o n b e f = ltb-false (8 * length s) (o + n) (sym e ∙ f)
-
 -- ---- the checks: 27, then 2
 module _ (size o n : ℕ) where
-  pub bounds_too_long : 65536 < size → O.Refused R.TooManyBytes ≡ first_of (bounds_checks size o n)
+  pub bounds_too_long : 65536 < size → Err R.TooManyBytes ≡ first_of (bounds_checks size o n)
   unfolding first_of bounds_checks
   bounds_too_long l = rw (lt-ltb 65536 size l)
 
   module _ (b : Bool) (l : size ≤ 65536) (e : b ≡ ltb (8 * size) (o + n)) where
-    pub bounds_outside : b ≡ true → O.Refused R.BufferFieldIndexesOutOfBounds ≡ first_of (bounds_checks size o n)
+    pub bounds_outside : b ≡ true → Err R.BufferFieldIndexesOutOfBounds ≡ first_of (bounds_checks size o n)
     unfolding first_of bounds_checks
     bounds_outside t = rw (le-ltb 65536 size l, ← e, t)
 
-    pub bounds_done : b ≡ false → O.Done ≡ first_of (bounds_checks size o n)
+    pub bounds_done : b ≡ false → Ok tt ≡ first_of (bounds_checks size o n)
     unfolding first_of bounds_checks
     bounds_done f = rw (le-ltb 65536 size l, ← e, f)

@@ -5,11 +5,12 @@ use Rattle.bits.specs.Bits.{bit_of, bit_at, get_bits, run_bits, with_bits, bytes
 use Rattle.types.specs.Values.{type_of}
 use Rattle.types.specs.Refusals.{Checks, first_of, judged}
 use Rattle.types.specs.declared.refusal.Refusal.TheVariants as R
-use Rattle.types.specs.declared.refusal.Outcome.{Outcome}
+use Rattle.buffer_field.specs.declared.FieldValue.TheVariants as Fi
+use Rattle.buffer_field.specs.declared.FieldValue.{FieldValue}
+use Rattle.std.specs.Prelude.{⊤, Result, Ok, Err}
+use Rattle.types.specs.declared.refusal.Refusal.{Refusal}
 use Rattle.types.specs.declared.value.AmlValue.{AmlValue}
 use Rattle.types.specs.declared.value.AmlValue.TheVariants as Val
-use Rattle.buffer_field.specs.declared.FieldRead.{FieldRead}
-use Rattle.buffer_field.specs.declared.FieldRead.TheVariants as F
 
 -- "27: a lent operand, target or region .. over 65,536 bytes"
 abbrev pub too_long : List ℕ → Bool
@@ -30,13 +31,13 @@ bounds_checks size o n =
 
 -- the answer, and what the output holds after
 pub record Read : Type 0 where
-  pub answer : FieldRead
+  pub answer : Result FieldValue Refusal
   pub out : List ℕ
 
 -- "Reading 0 to 64 bits gives an Integer (length 0 gives 0), more gives a Buffer of length/8 bytes rounded up, unused top bits zero."
 unfoldable pub read_value : List ℕ → ℕ → ℕ → List ℕ → Bool → Read
-read_value s o n out true = record { answer = F.Integer (get_bits s o n); out = out }
-read_value s o n out false = record { answer = F.Buffer (bytes_for n); out = with_bits out 0 (8 * bytes_for n) (run_bits s o n) }
+read_value s o n out true = record { answer = Ok (Fi.Integer (get_bits s o n)); out = out }
+read_value s o n out false = record { answer = Ok (Fi.Buffer (bytes_for n)); out = with_bits out 0 (8 * bytes_for n) (run_bits s o n) }
 
 unfoldable pub read_checks : List ℕ → ℕ → ℕ → List ℕ → Checks
 read_checks s o n out =
@@ -47,7 +48,7 @@ read_checks s o n out =
 
 unfoldable pub read : List ℕ → ℕ → ℕ → List ℕ → Read
 read s o n out =
-    judged (first_of (read_checks s o n out)) (read_value s o n out (leb n 64)) (λ r. record { answer = F.Refused r; out = out })
+    judged (first_of (read_checks s o n out)) (read_value s o n out (leb n 64)) (λ r. record { answer = Err r; out = out })
 
 -- ---- writing
 
@@ -89,7 +90,7 @@ cannot nothing = true
 
 -- the answer, and what the buffer holds after
 pub record Wrote : Type 0 where
-  pub answer : Outcome
+  pub answer : Result ⊤ Refusal
   pub buffer : List ℕ
 
 unfoldable pub write_checks : List ℕ → ℕ → ℕ → AmlValue → List ℕ → Checks
@@ -99,12 +100,8 @@ write_checks s o n v bytes =
     ∷ (out_of_bounds s o n, R.BufferFieldIndexesOutOfBounds)
     ∷ []
 
-abbrev pub wrote : List ℕ → Outcome → List ℕ → Wrote
+abbrev pub wrote : List ℕ → Result ⊤ Refusal → List ℕ → Wrote
 wrote s a t = record { answer = a; buffer = judged a t (λ _. s) }
-
--- of these bits, with the bounds alone to check
-abbrev pub write_over : List ℕ → ℕ → ℕ → Written → Wrote
-write_over s o n w = wrote s (first_of ((out_of_bounds s o n, R.BufferFieldIndexesOutOfBounds) ∷ [])) (after s o w)
 
 unfoldable pub write : List ℕ → ℕ → ℕ → AmlValue → List ℕ → Wrote
 write s o n v bytes = wrote s (first_of (write_checks s o n v bytes)) (after s o (written v bytes n))

@@ -4,21 +4,17 @@ use Rattle.std.specs.Prelude.{ℕ, ◌-◌, ◌^◌, List, [], ◌∷◌, replic
 use Rattle.types.specs.Refusals.{number_of}
 use Rattle.types.specs.declared.value.RegionSpace.TheVariants as S
 use Rattle.buffer_field.specs.BufferFields as B
-use Rattle.buffer_field.specs.declared.FieldRead.{FieldRead}
-use Rattle.buffer_field.specs.declared.FieldRead.TheVariants as F
+use Rattle.buffer_field.specs.declared.FieldValue.TheVariants as Fi
+use Rattle.buffer_field.specs.declared.FieldValue.{FieldValue}
+use Rattle.std.specs.Prelude.{Result, Ok, Err}
+use Rattle.types.specs.declared.refusal.Refusal.{Refusal}
 use Rattle.types.specs.declared.value.AmlValue.TheVariants as Val
 use Rattle.field_unit.specs.Calls as C
 use Rattle.value.specs.Conversions.{Bytes, these, none, as_integer}
 use Rattle.value.specs.Integers.{def_to_integer}
-use Rattle.value.specs.declared.convert.IntegerAnswer.{IntegerAnswer}
-use Rattle.value.specs.declared.convert.IntegerAnswer.TheVariants as IA
-use Rattle.value.specs.declared.convert.LengthAnswer.{LengthAnswer}
-use Rattle.value.specs.declared.convert.LengthAnswer.TheVariants as LA
 use Rattle.expression.specs.Numbers as N
 use Rattle.expression.specs.Mid as M
 use Rattle.expression.specs.Concat as K
-use Rattle.field_unit.specs.declared.whole.UnitWritten.{UnitWritten}
-use Rattle.field_unit.specs.declared.whole.UnitWritten.TheVariants as UW
 
 -- what is given, and what the document says
 pub record Case : Type 0 where
@@ -27,26 +23,26 @@ pub record Case : Type 0 where
 
 -- ---- answers as numbers: 0 for an accepted call, else the refusal's number; then what was answered, then the bytes
 
-abbrev pub read_numbers : FieldRead → List ℕ
-read_numbers (F.Integer n) = 0 ∷ n ∷ []
-read_numbers (F.Buffer n) = 0 ∷ n ∷ []
-read_numbers (F.Refused r) = number_of r ∷ []
+abbrev pub read_numbers : Result FieldValue Refusal → List ℕ
+read_numbers (Ok (Fi.Integer n)) = 0 ∷ n ∷ []
+read_numbers (Ok (Fi.Buffer n)) = 0 ∷ n ∷ []
+read_numbers (Err r) = number_of r ∷ []
 
-abbrev pub wrote_numbers : UnitWritten → List ℕ → List ℕ
-wrote_numbers (UW.Count n) s = 0 ∷ n ∷ s
-wrote_numbers (UW.Refused r) s = number_of r ∷ s
+abbrev pub wrote_numbers : Result ℕ Refusal → List ℕ → List ℕ
+wrote_numbers (Ok n) s = 0 ∷ n ∷ s
+wrote_numbers (Err r) s = number_of r ∷ s
 
-abbrev pub integer_numbers : IntegerAnswer → List ℕ
-integer_numbers (IA.Integer n) = 0 ∷ n ∷ []
-integer_numbers (IA.Refused r) = number_of r ∷ []
+abbrev pub integer_numbers : Result ℕ Refusal → List ℕ
+integer_numbers (Ok n) = 0 ∷ n ∷ []
+integer_numbers (Err r) = number_of r ∷ []
 
 abbrev pub bytes_numbers : Bytes → List ℕ
 bytes_numbers (these l) = 0 ∷ l
 bytes_numbers (none r) = number_of r ∷ []
 
-abbrev pub length_numbers : LengthAnswer → List ℕ → List ℕ
-length_numbers (LA.Length n) out = 0 ∷ n ∷ out
-length_numbers (LA.Refused r) out = number_of r ∷ out
+abbrev pub length_numbers : Result ℕ Refusal → List ℕ → List ℕ
+length_numbers (Ok n) out = 0 ∷ n ∷ out
+length_numbers (Err r) out = number_of r ∷ out
 
 -- ---- the calls
 
@@ -70,7 +66,7 @@ resources s t = length_numbers (K.concat_res Val.Buffer s Val.Buffer t (replicat
 abbrev pub mid_of : List ℕ → ℕ → ℕ → List ℕ
 mid_of s i n = bytes_numbers (M.mid Val.Buffer s (Val.Integer i) [] (Val.Integer n) [])
 
-abbrev pub shifted : (ℕ → ℕ → IntegerAnswer) → ℕ → List ℕ
+abbrev pub shifted : (ℕ → ℕ → Result ℕ Refusal) → ℕ → List ℕ
 shifted f n = integer_numbers (N.binary f (Val.Integer 1) [] (Val.Integer n) [])
 
 abbrev pub text_integer : List ℕ → List ℕ

@@ -7,9 +7,7 @@ use Rattle.types.specs.declared.refusal.Refusal.{Refusal}
 use Rattle.types.specs.declared.refusal.Refusal.TheVariants as R
 use Rattle.types.specs.declared.value.AmlValue.{AmlValue}
 use Rattle.value.specs.Conversions.{as_integer, given}
-use Rattle.value.specs.declared.convert.IntegerAnswer.{IntegerAnswer}
-use Rattle.value.specs.declared.convert.IntegerAnswer.TheVariants as IA
-use Rattle.value.specs.declared.convert.LengthAnswer.TheVariants as LA
+use Rattle.std.specs.Prelude.{Result, Ok, Err}
 use Rattle.value.proofs.Giving.{into_length}
 use Rattle.expression.specs.Numbers.{and_then}
 use Rattle.expression.specs.Build.{built, build_buffer}
@@ -17,30 +15,30 @@ use Rattle.expression.proofs.Lent.{lent_then, both_first, both_second}
 use Rattle.expression.proofs.Filling.{copied, behind}
 
 module _ (v : AmlValue) (s initial out : List ℕ) where
-  pub build_long : 65536 < length initial → given (LA.Refused R.TooManyBytes) out ≡ build_buffer v s initial out
+  pub build_long : 65536 < length initial → given (Err R.TooManyBytes) out ≡ build_buffer v s initial out
   unfolding build_buffer
-  build_long h = sym (both_second s initial _ (λ r. given (LA.Refused r) out) h)
+  build_long h = sym (both_second s initial _ (λ r. given (Err r) out) h)
 
-  module _ (h : length initial ≤ 65536) (number : IntegerAnswer) (e : number ≡ as_integer v s) where
-    made : and_then number (λ n. built n initial out) (λ r. given (LA.Refused r) out) ≡ build_buffer v s initial out
+  module _ (h : length initial ≤ 65536) (number : Result ℕ Refusal) (e : number ≡ as_integer v s) where
+    made : and_then number (λ n. built n initial out) (λ r. given (Err r) out) ≡ build_buffer v s initial out
     unfolding build_buffer
-    made = sym (both_first s initial _ (λ r. given (LA.Refused r) out) h ∙ rw (lent_then _ (λ r. given (LA.Refused r) out) v s, e))
+    made = sym (both_first s initial _ (λ r. given (Err r) out) h ∙ rw (lent_then _ (λ r. given (Err r) out) v s, e))
 
-    pub build_refused : (q : Refusal) → number ≡ IA.Refused q → (r : Refusal) → ((p : Refusal) → number ≡ IA.Refused p → r ≡ p)
-        → given (LA.Refused r) out ≡ build_buffer v s initial out
-    build_refused q l r g = rw (g q l, ← made, l)
+    pub build_refused : (q : Refusal) → number ≡ Err q
+        → given (Err q) out ≡ build_buffer v s initial out
+    build_refused q l = rw (← made, l)
 
-    module _ (n : ℕ) (l : number ≡ IA.Integer n) where
-      pub build_below : n < length initial → given (LA.Refused R.MalformedBuffer) out ≡ build_buffer v s initial out
+    module _ (n : ℕ) (l : number ≡ Ok n) where
+      pub build_below : n < length initial → given (Err R.MalformedBuffer) out ≡ build_buffer v s initial out
       unfolding first_of
       build_below b = rw (← made, l, lt-ltb n (length initial) b)
 
-      pub build_no_room : length initial ≤ n → length out < n → given (LA.Refused R.OutputTooShort) out ≡ build_buffer v s initial out
+      pub build_no_room : length initial ≤ n → length out < n → given (Err R.OutputTooShort) out ≡ build_buffer v s initial out
       unfolding first_of
       build_no_room b f = rw (← made, l, le-ltb n (length initial) b, lt-ltb (length out) n f)
 
       build_all : length initial ≤ n → n ≤ length out → (t : List ℕ) → t ≡ initial ++ (replicate (n - length initial) 0 ++ drop n out)
-          → given (LA.Length n) t ≡ build_buffer v s initial out
+          → given (Ok n) t ≡ build_buffer v s initial out
       unfolding first_of
       build_all b f t g = rw (← made, l, le-ltb n (length initial) b, le-ltb (length out) n f, g)
 
@@ -48,7 +46,7 @@ module _ (v : AmlValue) (s initial out : List ℕ) where
       pub build_done : length initial ≤ n → n ≤ length out → (at : ℕ) → at ≡ length initial
           → (t : List ℕ) → t ≡ take (length initial) initial ++ drop (length initial) out
           → (ys : List ℕ) → ys ≡ replicate (length (take (n - at) (drop at t))) 0
-          → given (LA.Length n) (put_mid at (n - at) t ys) ≡ build_buffer v s initial out
+          → given (Ok n) (put_mid at (n - at) t ys) ≡ build_buffer v s initial out
       build_done b f at a t c ys z =
           let i = copied initial out t c in
           let m : length t ≡ length out = ap length i ∙ into_length initial out (omega arith) in

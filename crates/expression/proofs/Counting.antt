@@ -13,30 +13,29 @@ use Rattle.types.specs.contracts.value.AmlValue.{the_type}
 use Rattle.field_unit.specs.Calls.{read_field}
 use Rattle.value.specs.Conversions.{held_by, buffer_field_content, content_buffer, to_buffer, to_string, Bytes, these, none}
 use Rattle.value.specs.Lengths.{length_of, buffer_length}
-use Rattle.value.specs.declared.convert.LengthAnswer.{LengthAnswer}
-use Rattle.value.specs.declared.convert.LengthAnswer.TheVariants as LA
+use Rattle.std.specs.Prelude.{Result, Ok, Err}
 use Rattle.value.proofs.Fields.{content_outside, content_number, content_bytes, unit_no_buffer, unit_no_string}
 use Rattle.value.proofs.Lengths.{buffer_counted}
 use Rattle.expression.specs.Concat.{text_bytes}
 
-pub counted_these : (b : Bytes) (n : ℕ) → length_of b ≡ LA.Length n → b ≡ these (text_bytes b)
+pub counted_these : (b : Bytes) (n : ℕ) → length_of b ≡ Ok n → b ≡ these (text_bytes b)
 counted_these (these l) n e = refl
 counted_these (none r) n e = cc
 
-pub counted_length : (b : Bytes) (n : ℕ) → length_of b ≡ LA.Length n → n ≡ length (text_bytes b)
+pub counted_length : (b : Bytes) (n : ℕ) → length_of b ≡ Ok n → n ≡ length (text_bytes b)
 counted_length (these l) n e = cc
 counted_length (none r) n e = cc
 
-pub counted_none : (b : Bytes) (q : Refusal) → length_of b ≡ LA.Refused q → b ≡ none q
+pub counted_none : (b : Bytes) (q : Refusal) → length_of b ≡ Err q → b ≡ none q
 counted_none (these l) q e = cc
 counted_none (none r) q e = cc
 
 -- of no bytes no length comes
-no_bytes : {A : Type 0} (b : Bytes) (q : Refusal) (n : ℕ) → b ≡ none q → length_of b ≡ LA.Length n → A
+no_bytes : {A : Type 0} (b : Bytes) (q : Refusal) (n : ℕ) → b ≡ none q → length_of b ≡ Ok n → A
 no_bytes b q n e f = let z : ◌≡◌ {A = ℕ} 0 1 = cc (ap length_of e) in absurd (omega arith)
 
 -- only a String is bytes as a string
-pub only_string : (v : AmlValue) (t : List ℕ) (n : ℕ) → length_of (to_string (held_by v t)) ≡ LA.Length n → to_string (held_by v t) ≡ these t
+pub only_string : (v : AmlValue) (t : List ℕ) (n : ℕ) → length_of (to_string (held_by v t)) ≡ Ok n → to_string (held_by v t) ≡ these t
 unfolding to_string
 only_string Val.String t n e = refl
 only_string (Val.Field f) t n e = no_bytes _ _ n (unit_no_string (read_field t f)) e
@@ -58,7 +57,7 @@ abbrev pub not_field : List ℕ
 not_field = 0 ∷ 1 ∷ 2 ∷ 3 ∷ 5 ∷ 6 ∷ 7 ∷ 8 ∷ 9 ∷ 10 ∷ 11 ∷ 12 ∷ 13 ∷ []
 
 -- of these only a Buffer is bytes as a buffer
-pub only_buffer : (v : AmlValue) (t : List ℕ) (n : ℕ) → OneOf not_field (tag_of the_type v) → length_of (to_buffer (held_by v t)) ≡ LA.Length n → to_buffer (held_by v t) ≡ these t
+pub only_buffer : (v : AmlValue) (t : List ℕ) (n : ℕ) → OneOf not_field (tag_of the_type v) → length_of (to_buffer (held_by v t)) ≡ Ok n → to_buffer (held_by v t) ≡ these t
 unfolding to_buffer
 only_buffer Val.Buffer t n k e = refl
 only_buffer (Val.BufferField o m) t n k e = absurd (miss not_field 4 tt k)
@@ -76,7 +75,7 @@ only_buffer Val.PowerResource t n k e = no_bytes _ _ n refl e
 only_buffer Val.ThermalZone t n k e = no_bytes _ _ n refl e
 
 -- a BufferField that is bytes lies inside its buffer and is over 64 bits
-pub field_long : (o n m : ℕ) (t : List ℕ) → length_of (content_buffer (buffer_field_content o n t)) ≡ LA.Length m → (o + n ≤ 8 * length t) × (64 < n)
+pub field_long : (o n m : ℕ) (t : List ℕ) → length_of (content_buffer (buffer_field_content o n t)) ≡ Ok m → (o + n ≤ 8 * length t) × (64 < n)
 field_long o n m t e =
     lt_cases (8 * length t) (o + n) ((o + n ≤ 8 * length t) × (64 < n))
     (λ h. let z : ◌≡◌ {A = ℕ} 0 1 = cc (rw (content_outside o n t h) at e) in absurd (omega arith))
@@ -86,12 +85,12 @@ field_long o n m t e =
     (λ l. let z : ◌≡◌ {A = ℕ} 0 1 = cc (rw (content_number o n t h l) at e) in absurd (omega arith)))
 
 -- no more bytes than were lent
-fewer : (v : AmlValue) (s : List ℕ) (n : ℕ) → length_of (to_buffer (held_by v s)) ≡ LA.Length n → n ≤ length s
+fewer : (v : AmlValue) (s : List ℕ) (n : ℕ) → length_of (to_buffer (held_by v s)) ≡ Ok n → n ≤ length s
 unfolding to_buffer
 fewer Val.Buffer s n e = let k : length s ≡ n = cc in omega arith
 fewer (Val.BufferField o m) s n e =
     let b = field_long o m n s e in
-    let c : LA.Length (length (bytes (run_bits s o m) 0 (bytes_for m))) ≡ LA.Length n = rw (content_bytes o m s b.0 b.1) at e in
+    let c : Ok (length (bytes (run_bits s o m) 0 (bytes_for m))) ≡ Ok n = rw (content_bytes o m s b.0 b.1) at e in
     let f : length (bytes (run_bits s o m) 0 (bytes_for m)) ≡ n = cc in
     omega (arith, bytes_length (run_bits s o m) 0 (bytes_for m), b.0)
 fewer (Val.Field f) s n e = no_bytes _ _ n (unit_no_buffer (read_field s f)) e
@@ -107,5 +106,5 @@ fewer Val.Package s n e = no_bytes _ _ n refl e
 fewer Val.PowerResource s n e = no_bytes _ _ n refl e
 fewer Val.ThermalZone s n e = no_bytes _ _ n refl e
 
-pub bounded : (v : AmlValue) (s : List ℕ) (n : ℕ) (counted : LengthAnswer) → length s ≤ 65536 → counted ≡ buffer_length v s → counted ≡ LA.Length n → n ≤ 65536
+pub bounded : (v : AmlValue) (s : List ℕ) (n : ℕ) (counted : Result ℕ Refusal) → length s ≤ 65536 → counted ≡ buffer_length v s → counted ≡ Ok n → n ≤ 65536
 bounded v s n counted h e d = let k = fewer v s n (buffer_counted v s h ∙ sym e ∙ d) in omega arith

@@ -7,7 +7,7 @@ use Rattle.types.specs.declared.refusal.Refusal.TheVariants as R
 use Rattle.types.specs.declared.value.AmlValue.{AmlValue}
 use Rattle.value.proofs.Lent.{lent_short}
 use Rattle.value.specs.Conversions.{lent, held_by, to_integer, as_integer}
-use Rattle.value.specs.declared.convert.IntegerAnswer.TheVariants as IA
+use Rattle.std.specs.Prelude.{Err}
 use Rattle.expression.specs.Numbers.{and_then, both_lent}
 
 module _ {A : Type 0} (s t : List ℕ) (a : A) (f : Refusal → A) where
@@ -43,6 +43,6 @@ module _ {A : Type 0} (g : ℕ → A) (f : Refusal → A) where
     where
       either : (b : Bool)
           → judged (first_of ((b, R.TooManyBytes) ∷ [])) (and_then (to_integer (held_by v s)) g f) f
-          ≡ and_then (judged (first_of ((b, R.TooManyBytes) ∷ [])) (to_integer (held_by v s)) IA.Refused) g f
+          ≡ and_then (judged (first_of ((b, R.TooManyBytes) ∷ [])) (to_integer (held_by v s)) Err) g f
       either true = refl
       either false = refl

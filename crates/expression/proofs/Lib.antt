@@ -6,5 +6,4 @@ pub mod Building
 pub mod Counting
 pub mod Comparing
 pub mod Joining
-pub mod Naming
 pub mod Resources

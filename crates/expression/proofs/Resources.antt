@@ -10,8 +10,7 @@ use Rattle.types.specs.declared.refusal.Refusal.TheVariants as R
 use Rattle.types.specs.declared.value.AmlValue.{AmlValue}
 use Rattle.value.specs.Conversions.{held_by, to_buffer, Bytes, these, Given, given, giving, into, as_buffer}
 use Rattle.value.specs.Lengths.{buffer_length}
-use Rattle.value.specs.declared.convert.LengthAnswer.{LengthAnswer}
-use Rattle.value.specs.declared.convert.LengthAnswer.TheVariants as LA
+use Rattle.std.specs.Prelude.{Result, Ok, Err}
 use Rattle.value.proofs.Giving.{into_length, giving_none, giving_short, giving_these}
 use Rattle.value.proofs.Lengths.{buffer_counted}
 use Rattle.value.proofs.Lent.{as_buffer_short}
@@ -128,23 +127,23 @@ module _ (l r out t : List ℕ) (at end : ℕ) (a : at ≡ length l - 2) (b : en
 
 -- ---- the whole
 module _ (a : AmlValue) (s : List ℕ) (b : AmlValue) (t out : List ℕ) where
-  pub res_left_long : 65536 < length s → given (LA.Refused R.TooManyBytes) out ≡ concat_res a s b t out
+  pub res_left_long : 65536 < length s → given (Err R.TooManyBytes) out ≡ concat_res a s b t out
   unfolding concat_res
-  res_left_long h = sym (both_long s t _ (λ r. given (LA.Refused r) out) h)
+  res_left_long h = sym (both_long s t _ (λ r. given (Err r) out) h)
 
-  pub res_right_long : 65536 < length t → given (LA.Refused R.TooManyBytes) out ≡ concat_res a s b t out
+  pub res_right_long : 65536 < length t → given (Err R.TooManyBytes) out ≡ concat_res a s b t out
   unfolding concat_res
-  res_right_long h = sym (both_second s t _ (λ r. given (LA.Refused r) out) h)
+  res_right_long h = sym (both_second s t _ (λ r. given (Err r) out) h)
 
-  module _ (h : length s ≤ 65536) (g : length t ≤ 65536) (first : LengthAnswer) (e : first ≡ buffer_length a s) where
+  module _ (h : length s ≤ 65536) (g : length t ≤ 65536) (first : Result ℕ Refusal) (e : first ≡ buffer_length a s) where
     by_operands : giving (join_resources (to_buffer (held_by a s)) (to_buffer (held_by b t))) out ≡ concat_res a s b t out
     unfolding concat_res
-    by_operands = sym (both_short s t _ (λ r. given (LA.Refused r) out) h g)
+    by_operands = sym (both_short s t _ (λ r. given (Err r) out) h g)
 
-    pub res_left : (q : Refusal) → first ≡ LA.Refused q → given first out ≡ concat_res a s b t out
-    res_left q d = rw (d, ← by_operands, counted_none (to_buffer (held_by a s)) q (buffer_counted a s h ∙ sym e ∙ d)) (sym (giving_none q out))
+    pub res_left : (q : Refusal) → first ≡ Err q → given (Err q) out ≡ concat_res a s b t out
+    res_left q d = rw (← by_operands, counted_none (to_buffer (held_by a s)) q (buffer_counted a s h ∙ sym e ∙ d)) (sym (giving_none q out))
 
-    module _ (n : ℕ) (d : first ≡ LA.Length n) (second : LengthAnswer) (f : second ≡ buffer_length b t) where
+    module _ (n : ℕ) (d : first ≡ Ok n) (second : Result ℕ Refusal) (f : second ≡ buffer_length b t) where
       abbrev left : List ℕ
       left = text_bytes (to_buffer (held_by a s))
 
@@ -157,11 +156,11 @@ module _ (a : AmlValue) (s : List ℕ) (b : AmlValue) (t out : List ℕ) where
       left_length : n ≡ length left
       left_length = counted_length (to_buffer (held_by a s)) n (buffer_counted a s h ∙ sym e ∙ d)
 
-      pub res_right : (q : Refusal) → second ≡ LA.Refused q → given second out ≡ concat_res a s b t out
+      pub res_right : (q : Refusal) → second ≡ Err q → given (Err q) out ≡ concat_res a s b t out
       res_right q k =
-          rw (k, ← by_operands, left_is, counted_none (to_buffer (held_by b t)) q (buffer_counted b t g ∙ sym f ∙ k)) (sym (giving_none q out))
+          rw (← by_operands, left_is, counted_none (to_buffer (held_by b t)) q (buffer_counted b t g ∙ sym f ∙ k)) (sym (giving_none q out))
 
-      module _ (m : ℕ) (k : second ≡ LA.Length m) where
+      module _ (m : ℕ) (k : second ≡ Ok m) where
         right_is : to_buffer (held_by b t) ≡ these right
         right_is = counted_these (to_buffer (held_by b t)) m (buffer_counted b t g ∙ sym f ∙ k)
 
@@ -175,7 +174,7 @@ module _ (a : AmlValue) (s : List ℕ) (b : AmlValue) (t out : List ℕ) where
           judged_lengths : few ≡ (eqb (length left) 1 || eqb (length right) 1)
           judged_lengths = rw (← left_length, ← right_length) o
 
-          pub res_too_short : few ≡ true → given (LA.Refused R.ResourceDescriptorTooShort) out ≡ concat_res a s b t out
+          pub res_too_short : few ≡ true → given (Err R.ResourceDescriptorTooShort) out ≡ concat_res a s b t out
           unfolding first_of
           res_too_short x = rw (← by_bytes, ← judged_lengths, x) (sym (giving_none R.ResourceDescriptorTooShort out))
 
@@ -191,15 +190,15 @@ module _ (a : AmlValue) (s : List ℕ) (b : AmlValue) (t out : List ℕ) where
                 let y : length (body right) ≡ j = simp length-take (omega (arith, right_length)) in
                 length-append c (0x79 ∷ (256 - (sum c + 0x79) % 256) % 256 ∷ []) ∙ omega (arith, length-append (body left) (body right))
 
-            pub res_no_room : length out < at + j + 2 → given (LA.Refused R.OutputTooShort) out ≡ concat_res a s b t out
+            pub res_no_room : length out < at + j + 2 → given (Err R.OutputTooShort) out ≡ concat_res a s b t out
             res_no_room o = rw (← made) (sym (giving_short (ended (body left ++ body right)) out (omega (arith, made_length))))
 
-            module _ (room : at + j + 2 ≤ length out) (r : LengthAnswer) (u : List ℕ) (x : given r u ≡ as_buffer a s out) where
+            module _ (room : at + j + 2 ≤ length out) (r : Result ℕ Refusal) (u : List ℕ) (x : given r u ≡ as_buffer a s out) where
               copied_left : u ≡ into left out
               copied_left =
                   ap (λ (z : Given). z.out) (x ∙ as_buffer_short a s h out ∙ ap (λ (z : Bytes). giving z out) left_is ∙ giving_these left out (omega (arith, left_length)))
 
-              module _ (v : LengthAnswer) (ys : List ℕ) (y : given v ys ≡ as_buffer b t (take (length u - at) (drop at u))) where
+              module _ (v : Result ℕ Refusal) (ys : List ℕ) (y : given v ys ≡ as_buffer b t (take (length u - at) (drop at u))) where
                 start : at ≡ length left - 2
                 start = omega (arith, left_length)
 
@@ -216,7 +215,7 @@ module _ (a : AmlValue) (s : List ℕ) (b : AmlValue) (t out : List ℕ) where
                 res_length = both_length left right out u at (at + j) start stop room copied_left ys copied_right
 
                 pub res_done : (w : List ℕ) → w ≡ into (ended (take (at + j) (put_mid at (length u - at) u ys))) (put_mid at (length u - at) u ys)
-                    → given (LA.Length (at + j + 2)) w ≡ concat_res a s b t out
+                    → given (Ok (at + j + 2)) w ≡ concat_res a s b t out
                 res_done w z =
                     let p = resources_put left right out u at (at + j) start stop room copied_left ys copied_right w z in
                     rw (p, ← made_length) (sym (giving_these (ended (body left ++ body right)) out (omega (arith, made_length))) ∙ made)

@@ -2,6 +2,7 @@
 -- The bytes at the part's place are the part, and they lie in the source.
 -- Assumes nothing.
 use Rattle.std.proofs.Common.{◌≡◌, ℕ, zero, suc, ◌+◌, ◌-◌, ◌<◌, ◌≤◌, min, Bool, true, false, ◌||◌, ltb, leb, List, [], ◌∷◌, length, take, drop, sym, refl, ap, ◌∙◌, arith, length-drop, drop_of_length-le, length-take, ltb-false, ltb-true, le-ltb, lt-ltb, leb-false, leb-true}
+use mathlib.Core.Logic.{◌⊎◌, inl, inr}
 use denote.Enum.Declared.{tag_of}
 use types.Run.{OneOf, miss}
 use lib.Seq.{take-nil}
@@ -9,21 +10,16 @@ use Rattle.types.specs.Refusals.{first_of, judged}
 use Rattle.types.specs.Values.{type_of}
 use Rattle.types.specs.declared.refusal.Refusal.{Refusal}
 use Rattle.types.specs.declared.refusal.Refusal.TheVariants as R
-use Rattle.types.specs.declared.refusal.Outcome.TheVariants as O
+use Rattle.expression.specs.declared.mid.Part.{Part}
+use Rattle.std.specs.Prelude.{Result, Ok, Err}
 use Rattle.types.specs.declared.value.AmlType.{AmlType}
 use Rattle.types.specs.declared.value.AmlValue.{AmlValue}
 use Rattle.types.specs.declared.value.AmlValue.TheVariants as Val
 use Rattle.types.specs.contracts.value.AmlValue.{the_type}
 use Rattle.buffer_field.specs.BufferFields.{too_long}
 use Rattle.value.specs.Conversions.{Held, held_by, to_integer, as_integer, Bytes, these, none}
-use Rattle.value.specs.declared.convert.IntegerAnswer.{IntegerAnswer}
-use Rattle.value.specs.declared.convert.IntegerAnswer.TheVariants as IA
 use Rattle.expression.specs.Numbers.{and_then, operands}
 use Rattle.expression.specs.Mid.{part, source, mid, mid_outcome, mid_part, place_of, placed, mid_place, PartIsThePart}
-use Rattle.expression.specs.declared.mid.Place.{Place}
-use Rattle.expression.specs.declared.mid.Place.TheVariants as P
-use Rattle.expression.specs.declared.number.Operands.{Operands}
-use Rattle.expression.specs.declared.number.Operands.TheVariants as Op
 
 -- ---- the part of a list
 
@@ -52,18 +48,18 @@ again s i n = go (leb i (length s)) refl
 -- ---- the operands, then the source
 
 -- what is made of the operands' answer
-abbrev sliced : Held → Operands → Bytes
-sliced h (Op.Two x y) = source h x y
-sliced h (Op.Refused r) = none r
+abbrev sliced : Held → Result (ℕ × ℕ) Refusal → Bytes
+sliced h (Ok p) = source h p.0 p.1
+sliced h (Err r) = none r
 
-each : (h : Held) (b : Bool) (x y : IntegerAnswer)
+each : (h : Held) (b : Bool) (x y : Result ℕ Refusal)
     → judged (first_of ((b, R.TooManyBytes) ∷ [])) (and_then x (λ i. and_then y (λ n. source h i n) none) none) none
-    ≡ sliced h (judged (first_of ((b, R.TooManyBytes) ∷ [])) (and_then x (λ i. and_then y (Op.Two i) Op.Refused) Op.Refused) Op.Refused)
+    ≡ sliced h (judged (first_of ((b, R.TooManyBytes) ∷ [])) (and_then x (λ i. and_then y (λ n. Ok (i, n)) Err) Err) Err)
 unfolding first_of
 each h true x y = refl
-each h false (IA.Refused r) y = refl
-each h false (IA.Integer i) (IA.Refused r) = refl
-each h false (IA.Integer i) (IA.Integer n) = refl
+each h false (Err r) y = refl
+each h false (Ok i) (Err r) = refl
+each h false (Ok i) (Ok n) = refl
 
 -- the places in the enum of the values that have no bytes to slice: all but 2 String and 3 Buffer
 abbrev pub unsliced : List ℕ
@@ -104,17 +100,17 @@ source_again Val.PowerResource s a n = refl
 source_again Val.ThermalZone s a n = refl
 
 -- operands that are two numbers: the first is the index's
-first_of_lem : (b c : Bool) (p q : IntegerAnswer) (x y : ℕ)
-    → judged (first_of ((b || c, R.TooManyBytes) ∷ [])) (and_then p (λ i. and_then q (Op.Two i) Op.Refused) Op.Refused) Op.Refused ≡ Op.Two x y
-    → judged (first_of ((b, R.TooManyBytes) ∷ [])) p IA.Refused ≡ IA.Integer x
+first_of_lem : (b c : Bool) (p q : Result ℕ Refusal) (x y : ℕ)
+    → judged (first_of ((b || c, R.TooManyBytes) ∷ [])) (and_then {A = Result (ℕ × ℕ) Refusal} p (λ i. and_then q (λ n. Ok (i, n)) Err) Err) Err ≡ Ok (x, y)
+    → judged (first_of ((b, R.TooManyBytes) ∷ [])) p Err ≡ Ok x
 unfolding first_of
 first_of_lem true c p q x y e = cc
 first_of_lem false true p q x y e = cc
-first_of_lem false false (IA.Refused r) q x y e = cc
-first_of_lem false false (IA.Integer i) (IA.Refused r) x y e = cc
-first_of_lem false false (IA.Integer i) (IA.Integer n) x y e = cc
+first_of_lem false false (Err r) q x y e = cc
+first_of_lem false false (Ok i) (Err r) x y e = cc
+first_of_lem false false (Ok i) (Ok n) x y e = let same : (i, n) ≡ (x, y) = cc in ap (λ (p : ℕ × ℕ). Ok p.0) same
 
-index_of : (i : AmlValue) (is : List ℕ) (n : AmlValue) (ns : List ℕ) (x y : ℕ) → operands i is n ns ≡ Op.Two x y → as_integer i is ≡ IA.Integer x
+index_of : (i : AmlValue) (is : List ℕ) (n : AmlValue) (ns : List ℕ) (x y : ℕ) → operands i is n ns ≡ Ok (x, y) → as_integer i is ≡ Ok x
 unfolding operands as_integer
 index_of i is n ns x y e = first_of_lem (too_long is) (too_long ns) (to_integer (held_by i is)) (to_integer (held_by n ns)) x y e
 
@@ -125,37 +121,40 @@ module _ (v : AmlValue) (s : List ℕ) (i : AmlValue) (is : List ℕ) (n : AmlVa
   unfolding mid first_of
   long h = rw (lt-ltb 65536 (length s) h)
 
-  pub place_long : 65536 < length s → P.Refused R.TooManyBytes ≡ mid_place v s i is n ns
+  pub place_long : 65536 < length s → Err R.TooManyBytes ≡ mid_place v s i is n ns
   place_long h = ap (λ (b : Bytes). placed b (place_of (as_integer i is) (length s))) (long h)
 
-  module _ (h : length s ≤ 65536) (both : Operands) (e : both ≡ operands i is n ns) where
+  module _ (h : length s ≤ 65536) (both : Result (ℕ × ℕ) Refusal) (e : both ≡ operands i is n ns) where
     made : sliced (held_by v s) both ≡ mid v s i is n ns
     unfolding mid operands
     made = rw (le-ltb 65536 (length s) h, e) (sym (each (held_by v s) (ltb 65536 (length is) || ltb 65536 (length ns)) (to_integer (held_by i is)) (to_integer (held_by n ns))))
 
-    pub place_refused : (q : Refusal) → both ≡ Op.Refused q → P.Refused q ≡ mid_place v s i is n ns
+    pub place_refused : (q : Refusal) → both ≡ Err q → Err q ≡ mid_place v s i is n ns
     place_refused q r = rw (← made, r)
 
-    module _ (x y : ℕ) (t : both ≡ Op.Two x y) where
+    module _ (x y : ℕ) (t : both ≡ Ok (x, y)) where
       -- of a source that can be sliced
-      place_sliced : source (held_by v s) x y ≡ these (part s x y) → (r : Place) → r ≡ P.At (min x (length s)) (min y (length s - min x (length s))) → r ≡ mid_place v s i is n ns
+      place_sliced : source (held_by v s) x y ≡ these (part s x y) → (r : Result Part Refusal) → r ≡ Ok (record { at = min x (length s); count = min y (length s - min x (length s)) }) → r ≡ mid_place v s i is n ns
       place_sliced k r g = rw (g, ← made, t, k, index_of i is n ns x y (sym e ∙ t), part_length s x y)
 
-      pub place_string : v ≡ Val.String → (r : Place) → r ≡ P.At (min x (length s)) (min y (length s - min x (length s))) → r ≡ mid_place v s i is n ns
-      place_string k r g = place_sliced (rw k) r g
+      sliced_part : source (held_by v s) x y ≡ these (part s x y)
+          → (q : Part) → q ≡ record { at = min x (length s); count = min y (length s - min x (length s)) } → Ok q ≡ mid_place v s i is n ns
+      sliced_part k q g = place_sliced k (Ok q) (ap Ok g)
 
-      pub place_buffer : v ≡ Val.Buffer → (r : Place) → r ≡ P.At (min x (length s)) (min y (length s - min x (length s))) → r ≡ mid_place v s i is n ns
-      place_buffer k r g = place_sliced (rw k) r g
+      pub place_sliced_by : (v ≡ Val.String) ⊎ (v ≡ Val.Buffer)
+          → (q : Part) → q ≡ record { at = min x (length s); count = min y (length s - min x (length s)) } → Ok q ≡ mid_place v s i is n ns
+      place_sliced_by (inl k) = sliced_part (rw k)
+      place_sliced_by (inr k) = sliced_part (rw k)
 
-      pub place_other : (m : AmlType) → m ≡ type_of v → OneOf unsliced (tag_of the_type v) → P.Refused (R.TypeCannotBeSliced m) ≡ mid_place v s i is n ns
+      pub place_other : (m : AmlType) → m ≡ type_of v → OneOf unsliced (tag_of the_type v) → Err (R.TypeCannotBeSliced m) ≡ mid_place v s i is n ns
       place_other m g k = rw (← made, t, cannot_slice v s x y k, g)
 
   -- ---- the part by its place
 
-  again_by : (o : Operands) → operands i is n ns ≡ o
+  again_by : (o : Result (ℕ × ℕ) Refusal) → operands i is n ns ≡ o
       → take (length (mid_part (sliced (held_by v s) o))) (drop (place_of (as_integer i is) (length s)) s) ≡ mid_part (sliced (held_by v s) o)
-  again_by (Op.Refused r) e = refl
-  again_by (Op.Two x y) e = rw (index_of i is n ns x y e) (source_again v s x y)
+  again_by (Err r) e = refl
+  again_by (Ok p) e = rw (index_of i is n ns p.0 p.1 e) (source_again v s p.0 p.1)
 
 pub part_is_the_part : PartIsThePart
 part_is_the_part v s i is n ns = go (ltb 65536 (length s)) refl
@@ -167,9 +166,9 @@ part_is_the_part v s i is n ns = go (ltb 65536 (length s)) refl
         rw (← made v s i is n ns (ltb-false 65536 (length s) e) (operands i is n ns) refl) (again_by v s i is n ns (operands i is n ns) refl)
 
 -- no part begins past the end
-place_most : (a : IntegerAnswer) (size : ℕ) → place_of a size ≤ size
-place_most (IA.Integer x) size = omega arith
-place_most (IA.Refused r) size = omega arith
+place_most : (a : Result ℕ Refusal) (size : ℕ) → place_of a size ≤ size
+place_most (Ok x) size = omega arith
+place_most (Err r) size = omega arith
 
 module _ (v : AmlValue) (s : List ℕ) (i : AmlValue) (is : List ℕ) (n : AmlValue) (ns : List ℕ) where
   -- and none ends past it
@@ -190,42 +189,44 @@ module _ (v : AmlValue) (s : List ℕ) (i : AmlValue) (is : List ℕ) (n : AmlVa
 
 -- ---- what an answered place says
 
-module _ (b : Bytes) (p : ℕ) (r : Place) (e : r ≡ placed b p) where
-  placed_refused : (q : Refusal) → r ≡ P.Refused q → b ≡ none q
+module _ (b : Bytes) (p : ℕ) (r : Result Part Refusal) (e : r ≡ placed b p) where
+  placed_refused : (q : Refusal) → r ≡ Err q → b ≡ none q
   placed_refused q k = go b e
     where
       go : (b : Bytes) → r ≡ placed b p → b ≡ none q
       go (these l) e = cc
       go (none q') e = cc
 
-  module _ (at count : ℕ) (k : r ≡ P.At at count) where
-    pub placed_done : O.Done ≡ mid_outcome b
+  module _ (x : Part) (k : r ≡ Ok x) where
+    pub placed_done : Ok tt ≡ mid_outcome b
     placed_done = go b e
       where
-        go : (b : Bytes) → r ≡ placed b p → O.Done ≡ mid_outcome b
+        go : (b : Bytes) → r ≡ placed b p → Ok tt ≡ mid_outcome b
         go (these l) e = refl
         go (none q) e = cc
 
-    pub placed_at : (p ≡ at) × (length (mid_part b) ≡ count)
+    pub placed_at : (p ≡ x.at) × (length (mid_part b) ≡ x.count)
     placed_at = go b e
       where
-        go : (b : Bytes) → r ≡ placed b p → (p ≡ at) × (length (mid_part b) ≡ count)
-        go (these l) e = (cc, cc)
+        go : (b : Bytes) → r ≡ placed b p → (p ≡ x.at) × (length (mid_part b) ≡ x.count)
+        go (these l) e =
+            let same : (record { at = p; count = length l }) ≡ x = cc in
+            (ap (λ (y : Part). y.at) same, ap (λ (y : Part). y.count) same)
         go (none q) e = (cc, cc)
 
-  pub outcome_refused : (q : Refusal) → r ≡ P.Refused q → O.Refused q ≡ mid_outcome b
+  pub outcome_refused : (q : Refusal) → r ≡ Err q → Err q ≡ mid_outcome b
   outcome_refused q k = sym (ap mid_outcome (placed_refused q k))
 
-  pub part_refused : (q : Refusal) → r ≡ P.Refused q → [] ≡ mid_part b
+  pub part_refused : (q : Refusal) → r ≡ Err q → [] ≡ mid_part b
   part_refused q k = sym (ap mid_part (placed_refused q k))
 
-module _ (v : AmlValue) (s : List ℕ) (i : AmlValue) (is : List ℕ) (n : AmlValue) (ns : List ℕ) (r : Place) (e : r ≡ mid_place v s i is n ns)
-    (at count : ℕ) (k : r ≡ P.At at count) where
-  both_said : (place_of (as_integer i is) (length s) ≡ at) × (length (mid_part (mid v s i is n ns)) ≡ count)
-  both_said = placed_at (mid v s i is n ns) (place_of (as_integer i is) (length s)) r e at count k
+module _ (v : AmlValue) (s : List ℕ) (i : AmlValue) (is : List ℕ) (n : AmlValue) (ns : List ℕ) (r : Result Part Refusal) (e : r ≡ mid_place v s i is n ns)
+    (x : Part) (k : r ≡ Ok x) where
+  both_said : (place_of (as_integer i is) (length s) ≡ x.at) × (length (mid_part (mid v s i is n ns)) ≡ x.count)
+  both_said = placed_at (mid v s i is n ns) (place_of (as_integer i is) (length s)) r e x k
 
-  pub place_within : at + count ≤ length s
+  pub place_within : x.at + x.count ≤ length s
   place_within = rw (both_said.0, both_said.1) at (part_within v s i is n ns)
 
-  pub place_part : take count (drop at s) ≡ mid_part (mid v s i is n ns)
+  pub place_part : take x.count (drop x.at s) ≡ mid_part (mid v s i is n ns)
   place_part = rw (both_said.0, both_said.1) at (part_is_the_part v s i is n ns)

@@ -6,17 +6,17 @@ use Rattle.types.specs.Refusals.{first_of, judged}
 use Rattle.types.specs.declared.refusal.Refusal.TheVariants as R
 use Rattle.types.specs.declared.value.AmlValue.{AmlValue}
 use Rattle.value.specs.Conversions.{held_by, to_integer, Given, given}
-use Rattle.value.specs.declared.convert.LengthAnswer.TheVariants as LA
+use Rattle.std.specs.Prelude.{Ok, Err}
 use Rattle.expression.specs.Numbers.{and_then, both_lent}
 
 -- of n bytes, with these at their front
 abbrev pub built : ℕ → List ℕ → List ℕ → Given
 built n initial out =
     judged (first_of ((nat_lt n (length initial), R.MalformedBuffer) ∷ (nat_lt (length out) n, R.OutputTooShort) ∷ []))
-    (given (LA.Length n) (initial ++ (replicate (n - length initial) 0 ++ drop n out)))
-    (λ r. given (LA.Refused r) out)
+    (given (Ok n) (initial ++ (replicate (n - length initial) 0 ++ drop n out)))
+    (λ r. given (Err r) out)
 
 -- the size with its bytes, and the initial bytes
 unfoldable pub build_buffer : AmlValue → List ℕ → List ℕ → List ℕ → Given
 build_buffer v s initial out =
-    both_lent s initial (and_then (to_integer (held_by v s)) (λ n. built n initial out) (λ r. given (LA.Refused r) out)) (λ r. given (LA.Refused r) out)
+    both_lent s initial (and_then (to_integer (held_by v s)) (λ n. built n initial out) (λ r. given (Err r) out)) (λ r. given (Err r) out)

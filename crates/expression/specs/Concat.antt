@@ -9,13 +9,10 @@ use Rattle.types.specs.declared.value.AmlType.{AmlType}
 use Rattle.types.specs.declared.value.AmlType.TheVariants as T
 use Rattle.types.specs.declared.value.AmlValue.{AmlValue}
 use Rattle.value.specs.Conversions.{Held, boolean, integer, string, buffer, buffer_field, field_unit, kind, held_by, truth_number, to_integer, to_buffer, Bytes, these, none, no, Given, given, giving}
-use Rattle.value.specs.declared.convert.LengthAnswer.{LengthAnswer}
-use Rattle.value.specs.declared.convert.LengthAnswer.TheVariants as LA
+use Rattle.expression.specs.declared.concat.ConcatValue.TheVariants as Cv
+use Rattle.expression.specs.declared.concat.ConcatValue.{ConcatValue}
+use Rattle.std.specs.Prelude.{Result, Ok, Err}
 use Rattle.expression.specs.Numbers.{and_then, both_lent}
-use Rattle.expression.specs.declared.number.Operands.{Operands}
-use Rattle.expression.specs.declared.number.Operands.TheVariants as Op
-use Rattle.expression.specs.declared.concat.ConcatAnswer.{ConcatAnswer}
-use Rattle.expression.specs.declared.concat.ConcatAnswer.TheVariants as C
 
 -- ---- Concat
 
@@ -65,9 +62,9 @@ abbrev pub join_numbers : ℕ → Held → Joined
 join_numbers x right = and_then (to_integer right) (λ y. a_buffer (number_bytes x ++ number_bytes y)) refused
 
 -- the same of both operands, or what converting them refused
-abbrev pub join_operands : Operands → Joined
-join_operands (Op.Two x y) = a_buffer (number_bytes x ++ number_bytes y)
-join_operands (Op.Refused r) = refused r
+abbrev pub join_operands : Result (ℕ × ℕ) Refusal → Joined
+join_operands (Ok p) = a_buffer (number_bytes p.0 ++ number_bytes p.1)
+join_operands (Err r) = refused r
 
 -- "Buffer left appends the right as buffer"
 abbrev pub join_buffers : List ℕ → Bytes → Joined
@@ -94,28 +91,28 @@ joined (field_unit f s) right = join_texts (name_of T.FieldUnit) (text_of right)
 joined (kind t) right = join_texts (name_of t) (text_of right)
 
 pub record Concatenated : Type 0 where
-  pub answer : ConcatAnswer
+  pub answer : Result ConcatValue Refusal
   pub out : List ℕ
 
-abbrev pub concatenated : ConcatAnswer → List ℕ → Concatenated
+abbrev pub concatenated : Result ConcatValue Refusal → List ℕ → Concatenated
 concatenated a out = record { answer = a; out = out }
 
-abbrev pub a_buffer_of : LengthAnswer → ConcatAnswer
-a_buffer_of (LA.Length n) = C.Buffer n
-a_buffer_of (LA.Refused r) = C.Refused r
+abbrev pub a_buffer_of : Result ℕ Refusal → Result ConcatValue Refusal
+a_buffer_of (Ok n) = Ok (Cv.Buffer n)
+a_buffer_of (Err r) = Err r
 
-abbrev pub a_string_of : LengthAnswer → ConcatAnswer
-a_string_of (LA.Length n) = C.String n
-a_string_of (LA.Refused r) = C.Refused r
+abbrev pub a_string_of : Result ℕ Refusal → Result ConcatValue Refusal
+a_string_of (Ok n) = Ok (Cv.String n)
+a_string_of (Err r) = Err r
 
 -- 20 last
 abbrev pub delivered : Joined → List ℕ → Concatenated
 delivered (a_buffer l) out = concatenated (a_buffer_of (giving (these l) out).answer) (giving (these l) out).out
 delivered (a_string l) out = concatenated (a_string_of (giving (these l) out).answer) (giving (these l) out).out
-delivered (refused r) out = concatenated (C.Refused r) out
+delivered (refused r) out = concatenated (Err r) out
 
 unfoldable pub concat : AmlValue → List ℕ → AmlValue → List ℕ → List ℕ → Concatenated
-concat a s b t out = both_lent s t (delivered (joined (held_by a s) (held_by b t)) out) (λ r. concatenated (C.Refused r) out)
+concat a s b t out = both_lent s t (delivered (joined (held_by a s) (held_by b t)) out) (λ r. concatenated (Err r) out)
 
 -- ---- ConcatRes
 
@@ -146,4 +143,4 @@ join_resources (none r) right = none r
 
 unfoldable pub concat_res : AmlValue → List ℕ → AmlValue → List ℕ → List ℕ → Given
 concat_res a s b t out =
-    both_lent s t (giving (join_resources (to_buffer (held_by a s)) (to_buffer (held_by b t))) out) (λ r. given (LA.Refused r) out)
+    both_lent s t (giving (join_resources (to_buffer (held_by a s)) (to_buffer (held_by b t))) out) (λ r. given (Err r) out)

@@ -4,17 +4,14 @@
 use Rattle.std.specs.Prelude.{◌≡◌, ℕ, min, ◌||◌, List, [], ◌∷◌, length, take, drop}
 use Rattle.types.specs.Refusals.{first_of, judged}
 use Rattle.types.specs.declared.refusal.Refusal.TheVariants as R
-use Rattle.types.specs.declared.refusal.Outcome.{Outcome}
-use Rattle.types.specs.declared.refusal.Outcome.TheVariants as O
+use Rattle.expression.specs.declared.mid.Part.{Part}
+use Rattle.std.specs.Prelude.{⊤, Result, Ok, Err}
+use Rattle.types.specs.declared.refusal.Refusal.{Refusal}
 use Rattle.types.specs.declared.value.AmlType.TheVariants as T
 use Rattle.types.specs.declared.value.AmlValue.{AmlValue}
 use Rattle.buffer_field.specs.BufferFields.{too_long}
 use Rattle.value.specs.Conversions.{Held, boolean, integer, string, buffer, buffer_field, field_unit, kind, held_by, to_integer, as_integer, Bytes, these, none}
-use Rattle.value.specs.declared.convert.IntegerAnswer.{IntegerAnswer}
-use Rattle.value.specs.declared.convert.IntegerAnswer.TheVariants as IA
 use Rattle.expression.specs.Numbers.{and_then}
-use Rattle.expression.specs.declared.mid.Place.{Place}
-use Rattle.expression.specs.declared.mid.Place.TheVariants as P
 
 -- from index to the smaller of index + length and the end
 abbrev pub part : List ℕ → ℕ → ℕ → List ℕ
@@ -37,25 +34,25 @@ mid v s i is n ns =
     (and_then (to_integer (held_by i is)) (λ x. and_then (to_integer (held_by n ns)) (λ y. source (held_by v s) x y) none) none)
     none
 
-abbrev pub mid_outcome : Bytes → Outcome
-mid_outcome (these l) = O.Done
-mid_outcome (none r) = O.Refused r
+abbrev pub mid_outcome : Bytes → Result ⊤ Refusal
+mid_outcome (these l) = Ok tt
+mid_outcome (none r) = Err r
 
 abbrev pub mid_part : Bytes → List ℕ
 mid_part (these l) = l
 mid_part (none r) = []
 
 -- where the part begins in a source of this size: at its index, or at the end
-abbrev pub place_of : IntegerAnswer → ℕ → ℕ
-place_of (IA.Integer x) size = min x size
-place_of (IA.Refused r) size = 0
+abbrev pub place_of : Result ℕ Refusal → ℕ → ℕ
+place_of (Ok x) size = min x size
+place_of (Err r) size = 0
 
 -- there, and of how many bytes
-abbrev pub placed : Bytes → ℕ → Place
-placed (these l) at = P.At at (length l)
-placed (none r) at = P.Refused r
+abbrev pub placed : Bytes → ℕ → Result Part Refusal
+placed (these l) at = Ok (record { at = at; count = length l })
+placed (none r) at = Err r
 
-abbrev pub mid_place : AmlValue → List ℕ → AmlValue → List ℕ → AmlValue → List ℕ → Place
+abbrev pub mid_place : AmlValue → List ℕ → AmlValue → List ℕ → AmlValue → List ℕ → Result Part Refusal
 mid_place v s i is n ns = placed (mid v s i is n ns) (place_of (as_integer i is) (length s))
 
 -- the bytes so placed in the source are the part

@@ -2,7 +2,6 @@
 // No public function has a `requires`: every argument is checked, and a refusal changes no byte.
 #![tactic(auto)]
 
-mod answer; // why a conversion was refused
 pub mod buffer; // building a buffer
 pub mod compare; // comparing two values
 pub mod concat; // Concat, ConcatRes

@@ -2,7 +2,7 @@
 -- first unit and one for the last: a read makes at most 9, a write at most 11, and both are reached by 64 bits at offset 7 with byte access.
 -- Assumes nothing.
 use mathlib.Core.Path.{◌≡◌, refl}
-use mathlib.Core.Bool.{Bool, true, false}
+use mathlib.Core.Bool.{false}
 use Prim.Native.Nat.{ℕ, ◌+◌, ◌-◌, ◌≤◌}
 use native.Mathlib.Nat.{add-mul, mul-le-mul_right, lt-div-mul-add, div-mul-le_self}
 use native.Mathlib.Omega.{arith}
@@ -12,11 +12,12 @@ use Rattle.types.specs.Refusals.{first_of}
 use Rattle.types.specs.declared.value.FieldUnit.{FieldUnit}
 use Rattle.types.specs.declared.value.RegionSpace.TheVariants as S
 use Rattle.field_unit.specs.Checks.{first_unit, last_unit, field_checks}
-use Rattle.field_unit.specs.Accesses.{first, last, partly, unit_accesses, accesses_from}
+use lib.ListN.{length}
+use Rattle.field_unit.specs.Accesses.{Plan, first, last, partly, unit_accesses, accesses_from, accesses}
 use Rattle.field_unit.specs.Calls.{plan_of, count_of, Accepted, reading, writing}
 use Rattle.field_unit.specs.declared.access.FieldOp.{FieldOp}
 use Rattle.field_unit.proofs.Accepted.{facts, first_last}
-use Rattle.field_unit.proofs.Units.{extra}
+use Rattle.field_unit.proofs.Units.{extra_most}
 use Rattle.field_unit.proofs.Listing.{count_one, count_many, count_read}
 
 pub units_most : (w o n : ℕ) → 8 ≤ w → 1 ≤ n → n ≤ 64 → last_unit w o n ≤ first_unit w o + 8
@@ -31,28 +32,25 @@ units_most w o n h g l =
     omega arith)
     (λ q. q)
 
-extra_most : (t : Bool) → extra t ≤ 1
-extra_most true = omega arith
-extra_most false = omega arith
-
-pub count_most : (op : FieldOp) (size : ℕ) → Accepted op size → count_of op ≤ 11
-count_most op size e =
-    let f = facts op size e in
-    let p = plan_of op in
-    let m = units_most p.width p.offset p.size (omega arith) (omega arith) (omega arith) in
-    let l = first_last p.width p.offset p.size (omega arith) (omega arith) in
+pub most_of : (p : Plan) → 8 ≤ p.width → 1 ≤ p.size → p.size ≤ 64 → length (accesses p) ≤ 11
+most_of p w h g =
+    let m = units_most p.width p.offset p.size w h g in
+    let l = first_last p.width p.offset p.size (omega arith) h in
     let a = extra_most (partly p (first p)) in
     let b = extra_most (partly p (last p)) in
-    eq_cases (first p) (last p) (count_of op ≤ 11)
+    eq_cases (first p) (last p) (length (accesses p) ≤ 11)
     (λ q. omega (arith, count_one p q))
-    (λ d. omega (arith, count_many p (omega arith) (omega arith) (omega arith)))
+    (λ d. omega (arith, count_many p (omega arith) h (omega arith)))
+
+pub count_most : (op : FieldOp) (size : ℕ) → Accepted op size → count_of op ≤ 11
+count_most op size e = let f = facts op size e in most_of (plan_of op) f.wide.0 f.fits.0 f.fits.1
 
 pub read_count_most : (op : FieldOp) (size : ℕ) → op.write ≡ false → Accepted op size → count_of op ≤ 9
 read_count_most op size w e =
     let f = facts op size e in
     let p = plan_of op in
-    let m = units_most p.width p.offset p.size (omega arith) (omega arith) (omega arith) in
-    omega (arith, count_read p (omega arith) (omega arith) w)
+    let m = units_most p.width p.offset p.size f.wide.0 f.fits.0 f.fits.1 in
+    omega (arith, count_read p (omega (arith, f.wide)) f.fits.0 w)
 
 -- 64 bits at offset 7, byte access, Preserve
 abbrev pub widest : FieldUnit

@@ -3,7 +3,7 @@
 -- unit's start up to the end of the last (`grown`), and each unit moves its end by one width.
 -- Assumes nothing.
 use mathlib.Core.Path.{◌≡◌, refl, sym, ap, ◌∙◌}
-use mathlib.Core.Bool.{Bool, true, false, cond, ◌&&◌}
+use mathlib.Core.Bool.{Bool, true, false, cond}
 use mathlib.Core.List.{List, [], ◌∷◌, ◌++◌}
 use Prim.Native.Nat.{ℕ, zero, suc, ◌+◌, ◌-◌, ◌*◌, ◌/◌, ◌≤◌, ◌<◌, min, max}
 use native.Mathlib.Nat.{zero-add, add-mul, suc-mul, zero-mul, div-mul-le_self, lt-div-mul-add, le-div_iff_mul-le, le_trans}
@@ -14,6 +14,7 @@ use borrow.Author.Tests.{leb-true}
 use Rattle.bits.specs.Bits.{bit_of, bit_at, run, put, from, with_bits, get_bits}
 use Rattle.bits.proofs.Laws.{lt_cases, bit_of_lt, bit_at_lt, run_ext, run_bit, put_in, put_below, put_above, put_cases, put_lt, put_cong, bits_eq}
 use Rattle.bits.proofs.With.{with_bits_length, with_bits_bit, with_bits_cong, with_bits_none, with_bits_kept, with_bits_bytes}
+use Rattle.types.proofs.Tests.{and_both}
 use Rattle.types.specs.declared.flags.FieldUpdateRule.{FieldUpdateRule}
 use Rattle.types.specs.declared.flags.FieldUpdateRule.TheVariants as U
 use Rattle.field_unit.specs.Accesses.{Plan, progress, first, units, base, lo, hi, covered, part_accesses, unit_accesses, accesses_from, accesses, gathered, others, merged, act, acts, whole}
@@ -184,19 +185,11 @@ module _ (p : Plan) (wr : p.write ≡ true) (bb : (k : ℕ) → p.bits k < 2) wh
       ∙ ap (λ b. cond b (Store u ∷ []) (part_accesses p.rule u)) e
       ∙ ap (λ x. part_accesses x u) q
 
-  both_true : (a b : Bool) → (a && b) ≡ true → (a ≡ true) × (b ≡ true)
-  both_true true true e = (refl, refl)
-  both_true true false e = (refl, e)
-  both_true false b e = (e, absurd (false≢true e))
-    where
-      false≢true : false ≡ true → ⊥
-      false≢true q = let z : ◌≡◌ {A = ℕ} 0 1 = ap (λ b. cond b 1 0) q in omega arith
-
   unit_covered : (s : List ℕ) (u h : ℕ) → covered p u ≡ true
       → (acts p (Store u ∷ []) (progress s h)).region ≡ with_bits s (base p u) p.width (unit_after (bit_at s) u)
   unfolding acts
   unit_covered s u h e =
-      let t = both_true (leb p.offset (base p u)) (leb (base p u + p.width) (p.offset + p.size)) e in
+      let t = and_both (leb p.offset (base p u)) (leb (base p u + p.width) (p.offset + p.size)) e in
       let a = leb-true _ _ t.0 in
       let b = leb-true _ _ t.1 in
       store_region s u h

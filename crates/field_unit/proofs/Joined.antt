@@ -4,16 +4,14 @@
 use mathlib.Core.Path.{◌≡◌, sym, ap, ◌∙◌}
 use mathlib.Core.List.{List}
 use Prim.Native.Nat.{ℕ, ◌+◌, ◌-◌, ◌*◌, ◌/◌, ◌%◌, ◌^◌, ◌≤◌, ◌<◌, min, max}
-use native.Mathlib.Nat.{mod-lt, zero-add, suc-mul, mul-le-mul_left, lt-div-mul-add, div-mul-le_self}
+use native.Mathlib.Nat.{mod-lt, zero-add, suc-mul}
 use native.Mathlib.Numerals.{add-one}
 use native.Mathlib.Omega.{arith}
 use lib.Bits.{bit_or, or_lt}
 use lib.Pow.{pow_pos}
-use Rattle.types.proofs.Widths.{Width}
 use Rattle.bits.specs.Bits.{bit_of, bit_at, run, get_bits}
 use Rattle.bits.proofs.Laws.{lt_cases, bit_at_lt, run_ext, run_bit, run_high, run_below, run_eq, run_shr}
 use Rattle.bits.proofs.Words.{bit_of_or, bit_of_shl, bit_of_shl_low, or_over}
-use Rattle.field_unit.proofs.Parts.{width_least, width_most}
 
 -- the field's bits so far, of which there are k: as many as 64 bits hold
 abbrev pub so_far : List ℕ → ℕ → ℕ → ℕ
@@ -70,36 +68,24 @@ module _ (s : List ℕ) (o : ℕ) where
 
 -- ---- the loop over the units
 
--- after unit u there are k bits of the field, up to the unit's end
+-- where unit u begins there are k bits of the field before it
 pub record Joining (s : List ℕ) (w o v k u : ℕ) : Type 0 where
   pub so_far_lem : v ≡ so_far s o k
-  pub ends : u * w + w ≡ o + k
+  pub ends : u * w ≡ o + k
 
--- the first unit begins at the field's first bit or before it, and ends after it
-pub first_begins : (w o u : ℕ) → Width w → u ≡ o / w → (u * w ≤ o) × (o - u * w < w)
-first_begins w o u ok e =
-    let least = width_least w ok in
-    let l = lt-div-mul-add {a = o} {b = w} (omega arith) in
-    let d = div-mul-le_self o w in
-    let m = ap (λ (x : ℕ). x * w) e in
-    (omega arith, omega arith)
-
-pub joining_start : (s : List ℕ) (w o u x : ℕ) → Width w → u ≡ o / w → x ≡ get_bits s (u * w) w
-    → Joining s w o (x / 2 ^ (o - u * w)) (w - (o - u * w)) u
-joining_start s w o u x ok e q =
-    let f = first_begins w o u ok e in
-    let most = width_most w ok in
-    record { so_far_lem = joined_first s o x (u * w) (o - u * w) w f.1 most (omega arith) q; ends = omega arith }
-
-pub next_begins : (w u : ℕ) → (u + 1) * w ≡ u * w + w
+next_begins : (w u : ℕ) → (u + 1) * w ≡ u * w + w
 next_begins w u = ap (λ (x : ℕ). x * w) (add-one u) ∙ suc-mul u w
 
-pub joining_next : (s : List ℕ) (w o v k u x : ℕ) → Joining s w o v k u → k < 64 → x ≡ get_bits s ((u + 1) * w) w
+-- the first unit begins at the field's first bit or before it, and ends after it
+pub joining_start : (s : List ℕ) (w o u x : ℕ) → w ≤ 64 → u * w ≤ o → o < u * w + w → x ≡ get_bits s (u * w) w
+    → Joining s w o (x / 2 ^ (o - u * w)) (w - (o - u * w)) (u + 1)
+joining_start s w o u x most a b q =
+    record {
+      so_far_lem = joined_first s o x (u * w) (o - u * w) w (omega arith) most (omega arith) q;
+      ends = omega (arith, next_begins w u);
+    }
+
+pub joining_next : (s : List ℕ) (w o v k u x : ℕ) → Joining s w o v k u → k < 64 → x ≡ get_bits s (u * w) w
     → Joining s w o (bit_or v (x * 2 ^ k % 2 ^ 64)) (k + w) (u + 1)
 joining_next s w o v k u x j h q =
-    let n = next_begins w u in
-    record { so_far_lem = joined_next s o v x ((u + 1) * w) k w h (n ∙ j.ends) j.so_far_lem q; ends = omega (arith, j.ends) }
-
--- units are few
-pub joining_few : (s : List ℕ) (w o v k u : ℕ) → Width w → Joining s w o v k u → o + k ≤ 524288 → u ≤ 65536
-joining_few s w o v k u ok j h = omega (arith, j.ends, mul-le-mul_left u (width_least w ok))
+    record { so_far_lem = joined_next s o v x (u * w) k w h j.ends j.so_far_lem q; ends = omega (arith, j.ends, next_begins w u) }

@@ -1,14 +1,11 @@
-pub mod Spaces
 pub mod Accepted
+pub mod Kept
 pub mod Units
 pub mod Listing
 pub mod Running
-pub mod Left
-pub mod Remaining
 pub mod Bounds
 pub mod Closed
 pub mod Parts
 pub mod Which
-pub mod Answers
 pub mod Turns
 pub mod Joined

@@ -1,30 +1,25 @@
 -- The field's bits in one unit. What the code makes by shifts and a mask has, bit by bit, the bits that the definition says: a read's bits stand
 -- above those held, a write's between those that the rule gives.
 -- Assumes nothing.
-use mathlib.Core.Path.{◌≡◌, refl, sym, ap, ap₂, ◌∙◌}
-use mathlib.Core.Bool.{Bool, true, false, cond}
-use mathlib.Core.List.{List, [], ◌∷◌}
-use Prim.Native.Nat.{ℕ, zero, suc, ◌+◌, ◌-◌, ◌*◌, ◌/◌, ◌%◌, ◌^◌, ◌≤◌, ◌<◌, min, max}
+use mathlib.Core.Path.{◌≡◌, refl, sym, ap, ◌∙◌}
+use mathlib.Core.List.{List}
+use Prim.Native.Nat.{ℕ, ◌+◌, ◌-◌, ◌*◌, ◌/◌, ◌%◌, ◌^◌, ◌≤◌, ◌<◌, min, max}
 use native.Mathlib.Nat.{zero-add, mod-lt}
 use native.Mathlib.Omega.{arith}
 use lib.Bits.{bit_and, bit_or, bit_xor, or_lt}
 use lib.Count.{count_trailing_zeros}
 use lib.Pow.{pow_pos, shr_lt}
-use lib.ListN.{get_or}
-use Rattle.bits.specs.Bits.{bit_of, run, put, from, get_bits, set_bits}
-use Rattle.bits.proofs.Laws.{lt_cases, bit_of_lt, bit_of_none, bit_of_shift, run_below, run_ext, run_bit, run_high, run_eq, put_in, put_below, put_above, put_cases, put_lt}
+use Rattle.bits.specs.Bits.{bit_of, run, put, from, set_bits}
+use Rattle.bits.proofs.Laws.{lt_cases, bit_of_lt, bit_of_shift, run_below, run_ext, run_bit, run_high, run_eq, put_in, put_below, put_above, put_cases, put_lt}
 use Rattle.bits.proofs.With.{with_bits_cong}
 use Rattle.bits.proofs.Words.{bit_of_or, bit_of_shl, bit_of_shl_low, low_law, ones_bit, merge_law}
 use Rattle.types.proofs.Widths.{Width, of_width}
 use Rattle.types.specs.declared.flags.FieldUpdateRule.{FieldUpdateRule}
 use Rattle.types.specs.declared.flags.FieldUpdateRule.TheVariants as U
-use Rattle.types.specs.contracts.flags.FieldUpdateRule.{the_type}
-use types.Run.{OneOf, miss}
-use denote.Enum.Declared.{tag_of}
-use Rattle.field_unit.specs.Accesses.{Plan, progress, base, lo, hi, keeps, gathered, others, merged, act}
+use Rattle.field_unit.specs.Accesses.{Plan, progress, base, lo, hi, gathered, others, merged, act}
 use Rattle.field_unit.specs.Calls.{plan_of}
 use Rattle.field_unit.specs.declared.access.FieldOp.{FieldOp}
-use Rattle.field_unit.specs.declared.access.Access.TheVariants.{Load, Store}
+use Rattle.field_unit.specs.declared.access.Access.TheVariants.{Store}
 
 -- ---- a width is a power of two, and whole bytes
 
@@ -36,8 +31,8 @@ pub width_shift_small : (w : ℕ) → Width w → count_trailing_zeros 64 w < 64
 unfolding count_trailing_zeros
 width_shift_small w h = of_width (λ (w : ℕ). count_trailing_zeros 64 w < 64) w h (omega arith) (omega arith) (omega arith) (omega arith)
 
-pub unit_place : (w u : ℕ) → Width w → 8 * (u * (w / 8)) ≡ u * w
-unit_place w u h = of_width (λ (w : ℕ). 8 * (u * (w / 8)) ≡ u * w) w h (omega arith) (omega arith) (omega arith) (omega arith)
+pub unit_place : (w u : ℕ) → Width w → 8 * (u * w / 8) ≡ u * w
+unit_place w u h = of_width (λ (w : ℕ). 8 * (u * w / 8) ≡ u * w) w h (omega arith) (omega arith) (omega arith) (omega arith)
 
 pub unit_size : (w : ℕ) → Width w → 8 * min (w / 8) 8 ≡ w
 unit_size w h = of_width (λ (w : ℕ). 8 * min (w / 8) 8 ≡ w) w h refl refl refl refl
@@ -201,81 +196,18 @@ stores s o w x y e =
     with_bits_cong s o w (bit_of x) (bit_of y)
     (λ i l. sym (ap (λ (z : ℕ). bit_of z i) (sym e) ∙ run_bit (bit_of x) (bit_of_lt x) 0 w i l ∙ ap (bit_of x) (zero-add i)))
 
--- ---- the rule
+pub all_ones : (k : ℕ) → k < 64 → bit_of 18446744073709551615 k ≡ 1
+all_ones k l = ones_bit 64 k l
 
-pub rule_zero : (n : ℕ) → n ≡ 0 → U.Preserve ≡ get_or (U.Preserve ∷ U.WriteAsOnes ∷ []) n U.WriteAsZeros
-rule_zero n e = rw e
+-- ---- at the width w that the code holds
 
-pub rule_one : (n : ℕ) → n ≡ 1 → U.WriteAsOnes ≡ get_or (U.Preserve ∷ U.WriteAsOnes ∷ []) n U.WriteAsZeros
-rule_one n e = rw e
-
-pub rule_more : (n : ℕ) → (n ≡ 0 → ⊥) → (n ≡ 1 → ⊥) → U.WriteAsZeros ≡ get_or (U.Preserve ∷ U.WriteAsOnes ∷ []) n U.WriteAsZeros
-rule_more zero a b = absurd (a refl)
-rule_more (suc zero) a b = absurd (b refl)
-rule_more (suc (suc n)) a b = refl
-
--- all rules but the first write over the bits around
-pub not_kept : (r : FieldUpdateRule) → OneOf (1 ∷ 2 ∷ []) (tag_of the_type r) → keeps r ≡ false
-not_kept U.Preserve k = absurd (miss (1 ∷ 2 ∷ []) 0 tt k)
-not_kept U.WriteAsOnes k = refl
-not_kept U.WriteAsZeros k = refl
-
-pub around_kept : (r : FieldUpdateRule) (h : ℕ) → r ≡ U.Preserve → (k : ℕ) → k < 64 → bit_of h k ≡ others r (bit_of h) k
-unfolding others
-around_kept r h e k l = rw e
-
-pub around_ones : (r : FieldUpdateRule) (h : ℕ) → r ≡ U.WriteAsOnes → (k : ℕ) → k < 64 → bit_of 18446744073709551615 k ≡ others r (bit_of h) k
-unfolding others
-around_ones r h e k l = ones_bit 64 k l ∙ rw e
-
-pub around_zeros : (r : FieldUpdateRule) (h : ℕ) → r ≡ U.WriteAsZeros → (k : ℕ) → k < 64 → bit_of 0 k ≡ others r (bit_of h) k
-unfolding others
-around_zeros r h e k l = bit_of_none k ∙ rw e
-
--- ---- at the numbers that the code holds: its width w, and the ends of the field's part of unit u
-
-module _ (op : FieldOp) (u h w : ℕ) (ew : w ≡ (plan_of op).width) where
+module _ (op : FieldOp) (u h w : ℕ) (ew : w ≡ (plan_of op).width) (s : List ℕ) where
   abbrev plan : Plan
   plan = plan_of op
 
-  module _ (low high : ℕ) (el : low ≡ max op.field.offset (u * w)) (eh : high ≡ min (op.field.offset + op.field.length) (u * w + w)) where
-    starts : low ≡ lo plan u
-    starts = el ∙ ap (λ (x : ℕ). max op.field.offset (u * x)) ew
-
-    ends : high ≡ hi plan u
-    ends = eh ∙ ap (λ (x : ℕ). min (op.field.offset + op.field.length) (u * x + x)) ew
-
-    pub gathers_at : (x : ℕ) → op.field.offset < u * w + w → u * w < op.field.offset + op.field.length
-        → run (put (bit_of h) (low - op.field.offset) (high - low) (bit_of (x / 2 ^ (low - u * w)))) 0 (low - op.field.offset + (high - low)) ≡ gathered plan u h x
-    gathers_at x a b = rw (starts, ends, ew) (gathers plan u h x (rw ew at a) (rw ew at b))
-
-    pub merges_all_at : 0 < w → high - low ≡ w → run (bit_of (op.value / 2 ^ (low - op.field.offset))) 0 w ≡ merged plan u h
-    merges_all_at l e =
-        let q : hi plan u - lo plan u ≡ plan.width = ap₂ (λ (x y : ℕ). x - y) (sym ends) (sym starts) ∙ e ∙ ew in
-        rw (starts, ew) (merges_all plan op.value u h (λ _. refl) (rw ew at l) q)
-
-    pub merges_at : (a : ℕ) → w ≤ 64 → ((k : ℕ) → k < 64 → bit_of a k ≡ others plan.rule (bit_of h) k)
-        → run (bit_of (run (put (bit_of a) (low - u * w) (high - low) (bit_of (op.value / 2 ^ (low - op.field.offset)))) 0 64)) 0 w ≡ merged plan u h
-    merges_at a l e = rw (starts, ends, ew) (merges plan op.value u h a (λ _. refl) (rw ew at l) e)
-
-  module _ (s : List ℕ) where
-    pub load_reads : (r x : ℕ) → op.write ≡ false → x ≡ get_bits s (u * w) w → r ≡ gathered plan u h x → r ≡ (act plan (Load u) (progress s h)).held
-    unfolding act
-    load_reads r x f e g =
-        g
-        ∙ ap (gathered plan u h) (e ∙ ap (λ (y : ℕ). get_bits s (u * y) y) ew)
-        ∙ sym (ap (λ (b : Bool). cond b (get_bits s (base plan u) plan.width) (gathered plan u h (get_bits s (base plan u) plan.width))) f)
-
-    pub load_keeps : (x : ℕ) → op.write ≡ true → x ≡ get_bits s (u * w) w → x ≡ (act plan (Load u) (progress s h)).held
-    unfolding act
-    load_keeps x t e =
-        e
-        ∙ ap (λ (y : ℕ). get_bits s (u * y) y) ew
-        ∙ sym (ap (λ (b : Bool). cond b (get_bits s (base plan u) plan.width) (gathered plan u h (get_bits s (base plan u) plan.width))) t)
-
-    pub store_puts : (t : List ℕ) (x : ℕ) → t ≡ set_bits s (u * w) w x → run (bit_of x) 0 w ≡ merged plan u h → t ≡ (act plan (Store u) (progress s h)).region
-    unfolding act
-    store_puts t x e m =
-        e
-        ∙ stores s (u * w) w x (merged plan u h) m
-        ∙ ap (λ (y : ℕ). set_bits s (u * y) y (merged plan u h)) ew
+  pub store_puts : (t : List ℕ) (x : ℕ) → t ≡ set_bits s (u * w) w x → run (bit_of x) 0 w ≡ merged plan u h → t ≡ (act plan (Store u) (progress s h)).region
+  unfolding act
+  store_puts t x e m =
+      e
+      ∙ stores s (u * w) w x (merged plan u h) m
+      ∙ ap (λ (y : ℕ). set_bits s (u * y) y (merged plan u h)) ew

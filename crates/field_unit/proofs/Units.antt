@@ -2,13 +2,14 @@
 -- first and the last is covered by the field, so it is never loaded by a write.
 -- Assumes nothing.
 use mathlib.Core.Path.{◌≡◌, refl, sym, ap, ◌∙◌}
-use mathlib.Core.Bool.{Bool, true, false, cond, ◌&&◌, not, true≢false, false≢true}
+use mathlib.Core.Bool.{Bool, true, false, cond, ◌&&◌, not}
 use mathlib.Core.List.{[], ◌∷◌}
 use Prim.Native.Nat.{ℕ, ◌+◌, ◌-◌, ◌≤◌, ◌<◌}
 use native.Mathlib.Nat.{suc-mul, lt-div-mul-add, div-mul-le_self, mul-le-mul_right}
 use native.Mathlib.Omega.{arith}
-use borrow.Author.Tests.{le-leb, lt-leb, ltb-true, ltb-false}
-use lib.Dec.{leb, ltb}
+use borrow.Author.Tests.{le-leb}
+use mir.Val.{bool_byte}
+use lib.Dec.{leb}
 use lib.ListN.{length}
 use Rattle.types.specs.declared.flags.FieldUpdateRule.{FieldUpdateRule}
 use Rattle.types.specs.declared.flags.FieldUpdateRule.TheVariants as U
@@ -29,10 +30,6 @@ partly_write p u e = go p.write (keeps p.rule && not (covered p u)) e
     go true b h = refl
     go false b h = h
 
-pub partly_overwrite : (p : Plan) (u : ℕ) → keeps p.rule ≡ false → partly p u ≡ false
-unfolding partly
-partly_overwrite p u e = ap (λ (t : Bool). p.write && (t && not (covered p u))) e ∙ mathlib.Core.Bool.and-false p.write
-
 pub partly_covered : (p : Plan) (u : ℕ) → covered p u ≡ true → partly p u ≡ false
 unfolding partly
 partly_covered p u e = ap (λ (t : Bool). p.write && (keeps p.rule && not t)) e ∙ go p.write (keeps p.rule)
@@ -42,38 +39,10 @@ partly_covered p u e = ap (λ (t : Bool). p.write && (keeps p.rule && not t)) e 
     go true false = refl
     go false b = refl
 
-pub partly_part : (p : Plan) (u : ℕ) → p.write ≡ true → keeps p.rule ≡ true → covered p u ≡ false → partly p u ≡ true
-unfolding partly
-partly_part p u a b e = go p.write (keeps p.rule) (covered p u) a b e
-  where
-    go : (x y z : Bool) → x ≡ true → y ≡ true → z ≡ false → (x && (y && not z)) ≡ true
-    go true true false a b e = refl
-    go true true true a b e = absurd (true≢false e)
-    go true false z a b e = absurd (false≢true b)
-    go false y z a b e = absurd (false≢true a)
-
--- where it begins before the field, or ends after it, it is not covered
-pub covered_not_below : (p : Plan) (u : ℕ) → base p u < p.offset → covered p u ≡ false
-covered_not_below p u h = ap (λ (t : Bool). t && leb (base p u + p.width) (p.offset + p.size)) (lt-leb p.offset (base p u) h)
-
-pub covered_not_above : (p : Plan) (u : ℕ) → p.offset + p.size < base p u + p.width → covered p u ≡ false
-covered_not_above p u h =
-    ap (λ (t : Bool). leb p.offset (base p u) && t) (lt-leb (base p u + p.width) (p.offset + p.size) h)
-    ∙ mathlib.Core.Bool.and-false (leb p.offset (base p u))
-
 pub covered_between : (p : Plan) (u : ℕ) → p.offset ≤ base p u → base p u + p.width ≤ p.offset + p.size → covered p u ≡ true
 covered_between p u h g =
     ap (λ (t : Bool). t && leb (base p u + p.width) (p.offset + p.size)) (le-leb p.offset (base p u) h)
     ∙ le-leb (base p u + p.width) (p.offset + p.size) g
-
--- a unit that does not begin before the field is loaded first where it ends after it
-pub partly_from : (p : Plan) (u : ℕ) → p.write ≡ true → keeps p.rule ≡ true → p.offset ≤ base p u
-    → ltb (p.offset + p.size) (base p u + p.width) ≡ partly p u
-partly_from p u a b h = go (ltb (p.offset + p.size) (base p u + p.width)) refl
-  where
-    go : (t : Bool) → ltb (p.offset + p.size) (base p u + p.width) ≡ t → ltb (p.offset + p.size) (base p u + p.width) ≡ partly p u
-    go true e = e ∙ sym (partly_part p u a b (covered_not_above p u (ltb-true (p.offset + p.size) (base p u + p.width) e)))
-    go false e = e ∙ sym (partly_covered p u (covered_between p u h (ltb-false (p.offset + p.size) (base p u + p.width) e)))
 
 pub middle_covered : (p : Plan) (u : ℕ) → 0 < p.width → 1 ≤ p.size → first p < u → u < last p → covered p u ≡ true
 middle_covered p u h g a b =
@@ -121,6 +90,15 @@ unit_stored p u w e = unit_write p u w ∙ ap (λ (t : Bool). cond t (Load u ∷
 -- one more where it is loaded first
 abbrev pub extra : Bool → ℕ
 extra b = cond b 1 0
+
+pub extra_most : (b : Bool) → extra b ≤ 1
+extra_most true = omega arith
+extra_most false = omega arith
+
+-- as the code counts it
+pub byte_is : (b : Bool) → bool_byte b ≡ extra b
+byte_is true = refl
+byte_is false = refl
 
 pub unit_count : (p : Plan) (u : ℕ) → length (unit_accesses p u) ≡ 1 + extra (partly p u)
 unit_count p u = by_write p.write refl

@@ -2,8 +2,8 @@
 // No public function has a `requires`: every argument is checked, and a refusal changes no byte.
 #![tactic(auto)]
 
-pub mod access; // one load or store: which it is, and what it does
+pub mod access; // one load or store: which it is, and where
 pub mod check; // which fields are refused
+mod checked; // an operation whose field is accepted
 pub mod next; // the next single access of an operation
-mod run; // accesses one after the other
 pub mod whole; // a whole read, a whole write

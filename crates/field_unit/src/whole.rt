@@ -1,88 +1,86 @@
 // Whole calls: every unit of the field in ascending order.
-ghost use Rattle.std.specs.Prelude.{◌≡◌, length, true, false, ◌+◌, ◌/◌, ◌≤◌};
-ghost use Rattle.bits.specs.Bits.{get_bits};
-ghost use Rattle.types.proofs.Widths.{Width};
+ghost use Rattle.std.specs.Prelude.{◌≡◌, true, false};
 ghost use Rattle.field_unit.specs.Accesses.{whole};
-ghost use Rattle.field_unit.specs.Calls.{plan_of, Accepted, read_field, write_field, wrote};
+ghost use Rattle.field_unit.specs.Calls.{plan_of, count_of, read_field, write_field, wrote};
 
-use crate::access::{FieldOp, fetch, first_unit, last_unit};
-use crate::check::{Checked, check_width, refusal_of};
-use crate::run::run;
+use crate::access::FieldOp;
+use crate::checked::Checked;
 use types::refusal::Refusal;
 use types::value::FieldUnit;
 
 // A read's value and how many loads it took.
 #[derive(Clone, Copy)]
-pub enum UnitRead {
-    Value { value: u64, count: u64 },
-    Refused(Refusal),
+pub struct UnitRead {
+    pub value: u64,
+    pub count: u64,
 }
 
-// How many loads and stores a write took.
-#[derive(Clone, Copy)]
-pub enum UnitWritten {
-    Count(u64),
-    Refused(Refusal),
-}
-
-// The field's bits, from its units: each is loaded once, ascending, and joined above those before it.
-fn join_units(width: u64, offset: u64, length: u64, first: u64, region: &[u8]) -> u64
-    requires { (Width width) × (1 ≤ length) × (length ≤ 64) × (offset + length ≤ 524288) × (first ≡ offset / width) }
-    ensures { result ≡ get_bits region.now offset length }
-{
-    let skip = offset - first * width;
-    let mut value = fetch(width, first, region) >> skip;
-    let mut have = width - skip;
-    let mut u = first;
-    while have < length {
-        u += 1;
-        value = value | (fetch(width, u, region) << have);
-        have += width;
+impl Checked {
+    // The field's bits, from its units: each is loaded once, ascending, and joined above those before it.
+    #[tactic(auto, using(crate::proofs::Kept::unit, crate::proofs::Kept::begins))]
+    fn read(self, region: &[u8]) -> u64
+        requires { self.op.write ≡ false }
+        ensures { result ≡ (whole (plan_of self.op) region.now).held }
+    {
+        let field = self.op.field;
+        let first = self.first();
+        let skip = field.offset - first * self.width;
+        let mut value = self.fetch(first, region) >> skip;
+        let mut have = self.width - skip;
+        for u in first + 1..self.last() + 1 {
+            value |= self.fetch(u, region) << have;
+            have += self.width;
+        }
+        bits::word::low(value, field.length as usize)
     }
-    bits::word::low(value, length as usize)
-}
 
-fn read_units(op: FieldOp, width: u64, region: &[u8]) -> u64
-    requires { (op.write ≡ false) × (Accepted op (length region.now)) × (width ≡ (plan_of op).width) }
-    ensures { result ≡ (whole (plan_of op) region.now).held }
-{
-    let field = op.field;
-    let first = first_unit(op, width, region.len());
-    join_units(width, field.offset, field.length, first, region)
+    // Stores each unit, ascending; a partly covered one under Preserve is loaded before. Answers how many loads and stores these are.
+    fn write(self, region: &mut [u8]) -> u64
+        requires { self.op.write ≡ true }
+        ensures { (result ≡ count_of self.op) × (region.new ≡ (whole (plan_of self.op) region.old).region) }
+    {
+        let first = self.first();
+        let last = self.last();
+        let mut n = last - first + 1; // a store of each
+        for u in first..last + 1 {
+            let mut held = 0;
+            if self.is_partly(u) {
+                held = self.fetch(u, region);
+                n += 1;
+            }
+            self.put(u, region, self.merge(u, held));
+        }
+        n
+    }
 }
 
 // The field's value, and how many loads that took.
-pub fn read_field(region: &[u8], field: FieldUnit) -> UnitRead
+#[tactic(auto, unfolding(crate::specs::Calls::read_field), using(crate::proofs::Which::read_count))]
+pub fn read_field(region: &[u8], field: FieldUnit) -> Result<UnitRead, Refusal>
     ensures { result ≡ read_field region.now field }
 {
-    let checked = check_width(field, false, region.len() as u64);
-    let Checked::Width(width) = checked else {
-        return UnitRead::Refused(refusal_of(checked));
-    };
-    let op = FieldOp {
+    let read = FieldOp {
         write: false,
         field,
         value: 0,
     };
-    let count = last_unit(op, width, region.len()) - first_unit(op, width, region.len()) + 1;
-    UnitRead::Value {
-        value: read_units(op, width, region),
-        count,
-    }
+    let checked = Checked::new(read, region.len() as u64)?;
+    Ok(UnitRead {
+        value: checked.read(region),
+        count: checked.last() - checked.first() + 1,
+    })
 }
 
 // Writes the value's lowest bits into the field. Answers how many loads and stores that took; there are at most 11.
-pub fn write_field(region: &mut [u8], field: FieldUnit, value: u64) -> UnitWritten
+#[tactic(auto, unfolding(crate::specs::Calls::write_field))]
+pub fn write_field(region: &mut [u8], field: FieldUnit, value: u64) -> Result<u64, Refusal>
     ensures { wrote result region.new ≡ write_field region.old field value }
 {
-    let checked = check_width(field, true, region.len() as u64);
-    let Checked::Width(width) = checked else {
-        return UnitWritten::Refused(refusal_of(checked));
-    };
-    let op = FieldOp {
+    let write = FieldOp {
         write: true,
         field,
         value,
     };
-    UnitWritten::Count(run(op, width, region))
+    let checked = Checked::new(write, region.len() as u64)?;
+    Ok(checked.write(region))
 }

@@ -1,10 +1,9 @@
 // The incident, replayed: a twelve-bit fill count is written into a record whose other four bits are a valve timer's trim.
 #![tactic(auto)]
 
-use field_unit::whole::{UnitWritten, write_field};
+use field_unit::whole::write_field;
 use std::io;
 use types::flags::FieldFlags;
-use types::refusal::number;
 use types::value::{FieldUnit, RegionSpace};
 
 fn show(rt: &impl Print, title: &str, low: u8, high: u8) -> io::Result<()> {
@@ -24,9 +23,9 @@ fn main(rt: HostRuntime) -> io::Result<()> {
     let answer = write_field(&mut region, fill_count, 0x123);
     show(&rt, "record after    ", region[0], region[1])?;
     match answer {
-        UnitWritten::Count(n) => println!(rt; "accesses        {n}"),
-        UnitWritten::Refused(r) => {
-            let n = number(r);
+        Ok(n) => println!(rt; "accesses        {n}"),
+        Err(r) => {
+            let n = u8::from(r);
             println!(rt; "refused         {n}")
         }
     }

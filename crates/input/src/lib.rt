@@ -13,7 +13,7 @@ pub fn read_full<R: Read>(input: &mut R, buf: &mut [u8]) -> io::Result<usize>
     ensures end { IfOk result (λ n. n < length buf.new → IsAtEnd (R.remaining input.new)) }
     ensures error { IfErr result (λ _. (n : ℕ) × (n ≤ length buf.new) × Consumes (R.remaining input.old) (R.remaining input.new) (take n buf.new)) }
 {
-    let mut n = 0;
+    let mut n = 0; // counted by hand: each turn goes on by what came, and `read_exact` says of a stream that ends no number
     while n < buf.len() {
         let more = input.read(&mut buf[n..])?;
         if more == 0 {

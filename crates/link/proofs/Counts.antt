@@ -1,7 +1,7 @@
 -- A whole call makes at most 11 loads and stores, so their count fits its place in an answer: an accepted one by the bound on the list of
 -- accesses, and a refused one makes none.
 -- Assumes nothing.
-use mathlib.Core.Path.{◌≡◌, refl, ap, ◌∙◌}
+use mathlib.Core.Path.{◌≡◌, refl}
 use mathlib.Core.Bool.{◌||◌}
 use mathlib.Core.List.{List, [], ◌∷◌}
 use Prim.Native.Nat.{ℕ, ◌≤◌}
@@ -9,62 +9,61 @@ use native.Mathlib.Omega.{arith}
 use lib.ListN.{length}
 use Rattle.types.specs.Refusals.{judged, first_of}
 use Rattle.types.specs.declared.refusal.Refusal.TheVariants as R
-use Rattle.types.specs.declared.refusal.Outcome.{Outcome}
-use Rattle.types.specs.declared.refusal.Outcome.TheVariants as O
+use Rattle.std.specs.Prelude.{⊤, Result, Ok, Err}
+use Rattle.types.specs.declared.refusal.Refusal.{Refusal}
 use Rattle.types.specs.declared.value.AmlValue.{AmlValue}
 use Rattle.types.specs.declared.value.FieldUnit.{FieldUnit}
 use Rattle.buffer_field.specs.BufferFields.{too_long}
 use Rattle.value.specs.Conversions.{held_by, to_integer}
 use Rattle.value.specs.FieldWrites.{write_integer, write_value}
-use Rattle.value.specs.declared.convert.IntegerAnswer.{IntegerAnswer}
-use Rattle.value.specs.declared.convert.IntegerAnswer.TheVariants as IA
 use Rattle.field_unit.specs.Accesses.{whole}
-use Rattle.field_unit.specs.Calls.{plan_of, reading, writing, count_of, checked, wrote, Wrote, read_field, write_field}
-use Rattle.field_unit.specs.declared.whole.UnitRead.TheVariants as UR
-use Rattle.field_unit.specs.declared.whole.UnitWritten.TheVariants as UW
+use Rattle.field_unit.specs.declared.whole.UnitRead.{UnitRead}
+use Rattle.field_unit.specs.Calls.{plan_of, reading, writing, count_of, checked, wrote, read_field, write_field}
 use Rattle.field_unit.proofs.Bounds.{count_most}
 use Rattle.link.specs.Answers.{read_count, written_count}
 
-pub read_most : (s : List ℕ) (f : FieldUnit) → read_count (read_field s f) ≤ 11
+pub read_most : (s : List ℕ) (f : FieldUnit) {r : Result UnitRead Refusal} → r ≡ read_field s f → read_count r ≤ 11
 unfolding read_field
-read_most s f = go (checked (reading f) (length s)) refl
+read_most s f e = rw e (go (checked (reading f) (length s)) refl)
   where
-    go : (o : Outcome) → checked (reading f) (length s) ≡ o
-        → read_count (judged o (UR.Value (whole (plan_of (reading f)) s).held (count_of (reading f))) UR.Refused) ≤ 11
-    go O.Done e = count_most (reading f) (length s) e
-    go (O.Refused r) e = omega arith
+    go : (o : Result ⊤ Refusal) → checked (reading f) (length s) ≡ o
+        → read_count (judged o (Ok (record { value = (whole (plan_of (reading f)) s).held; count = count_of (reading f) })) Err) ≤ 11
+    go (Ok tt) e = count_most (reading f) (length s) e
+    go (Err r) e = omega arith
 
-pub write_most : (s : List ℕ) (f : FieldUnit) (v : ℕ) → written_count (write_field s f v).answer ≤ 11
+write_fits : (s : List ℕ) (f : FieldUnit) (v : ℕ) → written_count (write_field s f v).answer ≤ 11
 unfolding write_field
-write_most s f v = go (checked (writing f v) (length s)) refl
+write_fits s f v = go (checked (writing f v) (length s)) refl
   where
-    go : (o : Outcome) → checked (writing f v) (length s) ≡ o
+    go : (o : Result ⊤ Refusal) → checked (writing f v) (length s) ≡ o
         → written_count
-        (judged o (wrote (UW.Count (count_of (writing f v))) (whole (plan_of (writing f v)) s).region) (λ r. wrote (UW.Refused r) s)).answer
+        (judged o (wrote (Ok (count_of (writing f v))) (whole (plan_of (writing f v)) s).region) (λ r. wrote (Err r) s)).answer
         ≤ 11
-    go O.Done e = count_most (writing f v) (length s) e
-    go (O.Refused r) e = omega arith
+    go (Ok tt) e = count_most (writing f v) (length s) e
+    go (Err r) e = omega arith
 
-pub value_most : (s : List ℕ) (f : FieldUnit) (v : AmlValue) (b : List ℕ) → written_count (write_value s f v b).answer ≤ 11
+pub write_most : (s : List ℕ) (f : FieldUnit) (v : ℕ) {r : Result ℕ Refusal} → r ≡ (write_field s f v).answer → written_count r ≤ 11
+write_most s f v e = rw e (write_fits s f v)
+
+value_fits : (s : List ℕ) (f : FieldUnit) (v : AmlValue) (b : List ℕ) → written_count (write_value s f v b).answer ≤ 11
 unfolding write_value
-value_most s f v b = lent (first_of ((too_long s || too_long b, R.TooManyBytes) ∷ []))
+value_fits s f v b = lent (first_of ((too_long s || too_long b, R.TooManyBytes) ∷ []))
   where
-    number : (n : IntegerAnswer) → written_count (write_integer s f n).answer ≤ 11
-    number (IA.Integer n) = write_most s f n
-    number (IA.Refused r) = omega arith
+    number : (n : Result ℕ Refusal) → written_count (write_integer s f n).answer ≤ 11
+    number (Ok n) = write_fits s f n
+    number (Err r) = omega arith
 
-    field : (o : Outcome) → written_count (judged o (write_integer s f (to_integer (held_by v b))) (λ r. wrote (UW.Refused r) s)).answer ≤ 11
-    field O.Done = number (to_integer (held_by v b))
-    field (O.Refused r) = omega arith
+    field : (o : Result ⊤ Refusal) → written_count (judged o (write_integer s f (to_integer (held_by v b))) (λ r. wrote (Err r) s)).answer ≤ 11
+    field (Ok tt) = number (to_integer (held_by v b))
+    field (Err r) = omega arith
 
-    lent : (o : Outcome)
+    lent : (o : Result ⊤ Refusal)
         → written_count
-        (judged o (judged (checked (writing f 0) (length s)) (write_integer s f (to_integer (held_by v b))) (λ r. wrote (UW.Refused r) s))
-        (λ r. wrote (UW.Refused r) s)).answer
+        (judged o (judged (checked (writing f 0) (length s)) (write_integer s f (to_integer (held_by v b))) (λ r. wrote (Err r) s))
+        (λ r. wrote (Err r) s)).answer
         ≤ 11
-    lent O.Done = field (checked (writing f 0) (length s))
-    lent (O.Refused r) = omega arith
+    lent (Ok tt) = field (checked (writing f 0) (length s))
+    lent (Err r) = omega arith
 
--- the field of a write by another name
-pub of_field : (s : List ℕ) (f g : FieldUnit) (v : AmlValue) (b : List ℕ) {w : Wrote} → w ≡ write_value s f v b → f ≡ g → w ≡ write_value s g v b
-of_field s f g v b e p = e ∙ ap (λ (x : FieldUnit). write_value s x v b) p
+pub value_most : (s : List ℕ) (f : FieldUnit) (v : AmlValue) (b : List ℕ) {r : Result ℕ Refusal} → r ≡ (write_value s f v b).answer → written_count r ≤ 11
+value_most s f v b e = rw e (value_fits s f v b)

@@ -10,8 +10,8 @@ use lib.Dec.{leb, ltb, eqb}
 use lib.ListN.{length, get_or, set}
 use Rattle.types.specs.Refusals.{first_of, judged}
 use Rattle.types.specs.declared.refusal.Refusal.TheVariants as R
-use Rattle.types.specs.declared.refusal.Outcome.{Outcome}
-use Rattle.types.specs.declared.refusal.Outcome.TheVariants as O
+use Rattle.std.specs.Prelude.{⊤, Result, Ok, Err}
+use Rattle.types.specs.declared.refusal.Refusal.{Refusal}
 use Rattle.types.specs.declared.value.RegionSpace.{RegionSpace}
 use Rattle.types.specs.declared.value.FieldUnit.{FieldUnit}
 use Rattle.field_unit.specs.Checks.{field_checks}
@@ -23,14 +23,14 @@ use Rattle.task.specs.declared.table.Made.{Made}
 use Rattle.types.proofs.Judging.{none_holds}
 use Rattle.task.proofs.Calls.{start_passed, step_passed}
 use Rattle.task.proofs.Sound.{set_this}
-use Rattle.link.specs.Fields.{space_of, space_number}
+use Rattle.types.specs.Spaces.{space_of, space_number}
 use Rattle.link.specs.Tables.{truth_of, op_of, length_said, task_of, no_task, host_task_at, table_of, numbers_of_task, changed, fresh_numbers, started_call, stepped_call, NewSays, StartSays, StepSays, DamagedIsMalformed}
 use Rattle.link.specs.declared.tables.HostTask.{HostTask}
 use Rattle.link.specs.declared.tables.HostTable.{HostTable}
 use Rattle.link.proofs.Hosted.{start_by, start_is, step_by, step_is, task_there, took_after}
 
-abbrev new_by : ℕ → Outcome → Made
-new_by n o = judged o (record { table = fresh n; answer = O.Done }) (λ r. record { table = fresh 0; answer = O.Refused r })
+abbrev new_by : ℕ → Result ⊤ Refusal → Made
+new_by n o = judged o (record { table = fresh n; answer = Ok tt }) (λ r. record { table = fresh 0; answer = Err r })
 
 -- ---- a task's numbers say the task
 
@@ -96,20 +96,20 @@ module _ (h : HostTable) (len : length h.tasks ≡ 4) (i : ℕ) (small : i < 4) 
 
 -- ---- a new table, start, step
 
-new_by_lem : (n : ℕ) (o : Outcome) → table_of (fresh_numbers (new_by n o).table.size) ≡ (new_by n o).table
+new_by_lem : (n : ℕ) (o : Result ⊤ Refusal) → table_of (fresh_numbers (new_by n o).table.size) ≡ (new_by n o).table
 unfolding space_of
-new_by_lem n O.Done = refl
-new_by_lem n (O.Refused r) = refl
+new_by_lem n (Ok tt) = refl
+new_by_lem n (Err r) = refl
 
 pub new_says : NewSays
 unfolding new_table
 new_says n = new_by_lem n (first_of ((ltb 65536 n, R.TooManyBytes) ∷ []))
 
 module _ (h : HostTable) (len : length h.tasks ≡ 4) (s : List ℕ) (i : ℕ) (o : FieldOp) (n : ℕ) (e : o.field.space ≡ space_of n) where
-  start_by_lem : (c : Outcome) → first_of (start_checks (table_of h) s i o) ≡ c
+  start_by_lem : (c : Result ⊤ Refusal) → first_of (start_checks (table_of h) s i o) ≡ c
       → table_of (started_call h i (start_by (table_of h) s i o c)).table ≡ (start_by (table_of h) s i o c).table
-  start_by_lem O.Done p = changed_says h len i (start_passed (table_of h) s i o p).small h.holder (started o) (task_back (started o) n e)
-  start_by_lem (O.Refused r) p = refl
+  start_by_lem (Ok tt) p = changed_says h len i (start_passed (table_of h) s i o p).small h.holder (started o) (task_back (started o) n e)
+  start_by_lem (Err r) p = refl
 
 pub start_says : StartSays
 start_says h len s i write space flags offset size value =
@@ -122,26 +122,26 @@ after_back true k x n e = refl
 after_back false k x n e = task_back (task_after false k x) n e
 
 module _ (h : HostTable) (len : length h.tasks ≡ 4) (s : List ℕ) (i : ℕ) where
-  step_by_lem : (c : Outcome) → first_of (step_checks (table_of h) s i) ≡ c
+  step_by_lem : (c : Result ⊤ Refusal) → first_of (step_checks (table_of h) s i) ≡ c
       → table_of (stepped_call h i (step_by (table_of h) s i c)).table ≡ (step_by (table_of h) s i c).table
-  step_by_lem O.Done p =
+  step_by_lem (Ok tt) p =
       let k = task_at (table_of h) i in
       let x = (accessed k s).held in
       let small = (step_passed (table_of h) s i p).small in
       let there : k.op.field.space ≡ space_of (host_task_at h i).space = ap (λ (y : Task). y.op.field.space) (task_there h i small) in
       rw (took_after (is_last k) k.op.write x)
       (changed_says h len i small (holder_after (carries_lock k.op) (is_last k) i h.holder) (task_after (is_last k) k x) (after_back (is_last k) k x _ there))
-  step_by_lem (O.Refused r) p = refl
+  step_by_lem (Err r) p = refl
 
 pub step_says : StepSays
 step_says h len s i = rw (step_is (table_of h) s i) (step_by_lem h len s i (first_of (step_checks (table_of h) s i)) refl)
 
 -- ---- a busy task of other numbers
 
-no_bits : (w : Bool) (f : FieldUnit) (size : ℕ) → f.length ≡ 0 → (o : Outcome) → first_of (field_checks w f size) ≡ o → refused o ≡ true
+no_bits : (w : Bool) (f : FieldUnit) (size : ℕ) → f.length ≡ 0 → (o : Result ⊤ Refusal) → first_of (field_checks w f size) ≡ o → refused o ≡ true
 unfolding field_checks
-no_bits w f size e (O.Refused r) p = refl
-no_bits w f size e O.Done p =
+no_bits w f size e (Err r) p = refl
+no_bits w f size e (Ok tt) p =
     let fits : (eqb f.length 0 || ltb 64 f.length) ≡ false = (none_holds (field_checks w f size) p).1.1.1.1.0 in
     absurd (true≢false (sym (rw e refl) ∙ fits))
 

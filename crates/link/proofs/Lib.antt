@@ -1,5 +1,4 @@
 pub mod Numbers
-pub mod Spaces
 pub mod Counts
 pub mod Hosted
 pub mod Parts

@@ -82,11 +82,6 @@ module _ (a b c : ℕ) (ha : a < 256) (hb : b < 256) (hc : c < 256) where
 
 -- ---- a refusal's word
 
-pub word_is : (r : Refusal) {t : Types} → t ≡ types_of r → {s p w : ℕ} → s ≡ number_of r → p ≡ present_of t → w ≡ wanted_of t
-    → s + 256 * p + 65536 * w ≡ word_of r
-unfolding word_of
-word_is r et es ep ew = rw (es, ep, ew, et)
-
 -- the answer of a refusal's word is the answer of the refusal
 pub by_word : (r : Refusal) {w : ℕ} → w ≡ word_of r → {a : Answer} → a ≡ of_word w → a ≡ refused_by r
 unfolding word_of of_word refused_by

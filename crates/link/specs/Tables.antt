@@ -6,16 +6,17 @@ use Rattle.types.specs.Values.{type_number_of}
 use Rattle.types.specs.declared.value.AmlType.TheVariants as AT
 use Rattle.field_unit.specs.declared.access.FieldOp.{FieldOp}
 use Rattle.task.specs.Tasks as T
+use Rattle.task.specs.declared.table.Stepped.{Stepped}
+use Rattle.task.specs.declared.table.Started.{Started}
 use Rattle.task.specs.declared.table.Task.{Task}
 use Rattle.task.specs.declared.table.Table.{Table}
-use Rattle.task.specs.declared.table.Started.{Started}
-use Rattle.task.specs.declared.table.StartAnswer.{StartAnswer}
-use Rattle.task.specs.declared.table.StartAnswer.TheVariants as SA
-use Rattle.task.specs.declared.table.Stepped.{Stepped}
-use Rattle.task.specs.declared.table.StepAnswer.{StepAnswer}
-use Rattle.task.specs.declared.table.StepAnswer.TheVariants as ST
+use Rattle.std.specs.Prelude.{Result, Ok, Err}
+use Rattle.task.specs.declared.table.Step.TheVariants as St
+use Rattle.task.specs.declared.table.Step.{Step}
+use Rattle.types.specs.declared.refusal.Refusal.{Refusal}
 use Rattle.link.specs.Answers.{accepted, refused_by, outcome_answer}
-use Rattle.link.specs.Fields.{field_of, space_number}
+use Rattle.types.specs.Spaces.{space_number}
+use Rattle.link.specs.Fields.{field_of}
 use Rattle.link.specs.declared.answer.Answer.{Answer}
 use Rattle.link.specs.declared.tables.HostTask.{HostTask}
 use Rattle.link.specs.declared.tables.HostTable.{HostTable}
@@ -91,18 +92,18 @@ abbrev pub table_after : Bool → HostTable → ℕ → Table → HostTable
 table_after true h i t = changed h i t
 table_after false h i t = h
 
-abbrev pub start_took : StartAnswer → Bool
-start_took (SA.Count n) = true
-start_took (SA.Refused r) = false
+abbrev pub start_took : Result ℕ Refusal → Bool
+start_took (Ok n) = true
+start_took (Err r) = false
 
-abbrev pub start_count : StartAnswer → ℕ
-start_count (SA.Count n) = n
-start_count (SA.Refused r) = 0
+abbrev pub start_count : Result ℕ Refusal → ℕ
+start_count (Ok n) = n
+start_count (Err r) = 0
 
 -- the count of loads and stores to come
-unfoldable pub start_answer : StartAnswer → Answer
-start_answer (SA.Count n) = accepted 0 n 0
-start_answer (SA.Refused r) = refused_by r
+unfoldable pub start_answer : Result ℕ Refusal → Answer
+start_answer (Ok n) = accepted 0 n 0
+start_answer (Err r) = refused_by r
 
 abbrev pub started_call : HostTable → ℕ → Started → Called
 started_call h i r = called (table_after (start_took r.answer) h i r.table) (start_answer r.answer)
@@ -110,18 +111,18 @@ started_call h i r = called (table_after (start_took r.answer) h i r.table) (sta
 abbrev pub start_call : HostTable → List ℕ → ℕ → FieldOp → Called
 start_call h s i o = started_call h i (T.start (table_of h) s i o)
 
-abbrev pub step_took : StepAnswer → Bool
-step_took ST.More = true
-step_took ST.Done = true
-step_took (ST.Value x) = true
-step_took (ST.Refused r) = false
+abbrev pub step_took : Result Step Refusal → Bool
+step_took (Ok St.More) = true
+step_took (Ok St.Done) = true
+step_took (Ok (St.Value x)) = true
+step_took (Err r) = false
 
 -- count 1: more to come; 0: the last access was made, and a read has its value
-unfoldable pub step_answer : StepAnswer → Answer
-step_answer ST.More = accepted 0 1 0
-step_answer ST.Done = accepted 0 0 0
-step_answer (ST.Value x) = accepted (type_number_of AT.Integer) 0 x
-step_answer (ST.Refused r) = refused_by r
+unfoldable pub step_answer : Result Step Refusal → Answer
+step_answer (Ok St.More) = accepted 0 1 0
+step_answer (Ok St.Done) = accepted 0 0 0
+step_answer (Ok (St.Value x)) = accepted (type_number_of AT.Integer) 0 x
+step_answer (Err r) = refused_by r
 
 abbrev pub stepped_call : HostTable → ℕ → Stepped → Called
 stepped_call h i r = called (table_after (step_took r.answer) h i r.table) (step_answer r.answer)

@@ -1,16 +1,13 @@
 -- A value as a host names it: its kind by ACPI's number (ObjectType; 6.4, 19.6.97), 17 for a Boolean; the numbers that belong to the kind. 0, 7, 15
 -- and 16 are ACPI's Uninitialized, Event, DDB Handle and Debug, which document 01 has not taken: they and all above 17 are no kind.
 -- Assumes nothing.
-use Rattle.std.specs.Prelude.{ℕ, Bool, not, cond, ◌&&◌, ◌||◌, List, [], ◌∷◌, eqb, leb, get_or}
+use Rattle.std.specs.Prelude.{ℕ, Bool, not, cond, ◌&&◌, ◌||◌, List, [], ◌∷◌, eqb, get_or}
+use Rattle.types.specs.Values.{is_type, type_named}
 use Rattle.types.specs.declared.value.AmlType.{AmlType}
-use Rattle.types.specs.declared.value.AmlType.TheVariants as T
 use Rattle.types.specs.declared.value.AmlValue.{AmlValue}
 use Rattle.types.specs.declared.value.AmlValue.TheVariants as Val
 use Rattle.link.specs.Fields.{field_of}
 use Rattle.link.specs.declared.given.HostValue.{HostValue}
-
-abbrev pub is_type : ℕ → Bool
-is_type n = not (eqb n 0) && (not (eqb n 7) && leb n 14)
 
 abbrev pub is_kind : ℕ → Bool
 is_kind n = eqb n 17 || is_type n
@@ -51,29 +48,6 @@ with_value h f z = cond (is_kind h.kind) (f (value_of h)) z
 
 unfoldable pub with_both : {A : Type 0} → HostValue → HostValue → (AmlValue → AmlValue → A) → A → A
 with_both l r f z = cond (is_kind l.kind && is_kind r.kind) (f (value_of l) (value_of r)) z
-
--- the types by the same numbers
-abbrev pub of_types : List AmlType
-of_types =
-    T.Package
-    ∷ T.Integer
-    ∷ T.String
-    ∷ T.Buffer
-    ∷ T.Package
-    ∷ T.FieldUnit
-    ∷ T.Device
-    ∷ T.Package
-    ∷ T.Method
-    ∷ T.Mutex
-    ∷ T.OpRegion
-    ∷ T.PowerResource
-    ∷ T.Processor
-    ∷ T.ThermalZone
-    ∷ T.BufferField
-    ∷ []
-
-unfoldable pub type_named : ℕ → AmlType
-type_named n = get_or of_types n T.Package
 
 unfoldable pub with_type : {A : Type 0} → HostValue → ℕ → (AmlValue → AmlType → A) → A → A
 with_type h n f z = cond (is_kind h.kind && is_type n) (f (value_of h) (type_named n)) z

@@ -1,20 +1,21 @@
 // The numbers of an answer.
-ghost use Rattle.std.specs.Prelude.{◌≡◌, cond, ◌≤◌};
-ghost use Rattle.link.specs.Answers.{present_of, wanted_of, no_such_kind, read_answer, outcome_answer, unit_read_answer, unit_written_answer, read_count, written_count};
-ghost use Rattle.link.specs.Answers.{kind_answer, integer_answer, bool_answer, bytes_answer, type_answer, status_number, status_answer, compare_answer, concat_answer, place_answer, place_count};
+ghost use Rattle.std.specs.Prelude.{◌≡◌, ◌≤◌, MatchResult};
+ghost use Rattle.std.specs.Result.{ForOk};
+ghost use Rattle.link.specs.Answers.{present_of, wanted_of, no_such_kind, refused_by, read_answer, outcome_answer, unit_read_answer, unit_written_answer, read_count, written_count};
+ghost use Rattle.link.specs.Answers.{kind_answer, integer_answer, bool_answer, bytes_answer, type_answer, status_answer, compare_answer, concat_answer, place_answer, place_count};
 ghost use Rattle.link.specs.Words.{word_of, of_word};
 
-use buffer_field::FieldRead;
-use expression::compare::CompareAnswer;
-use expression::concat::ConcatAnswer;
-use expression::mid::Place;
-use field_unit::whole::{UnitRead, UnitWritten};
-use types::refusal::{Outcome, Refusal, Types, number, types_of};
-use types::value::{AmlType, type_number};
-use value::convert::{BoolAnswer, IntegerAnswer, LengthAnswer, TypeAnswer};
-use value::status::{StatusAnswer, StatusObject};
+use buffer_field::FieldValue;
+use expression::concat::ConcatValue;
+use expression::mid::Part;
+use field_unit::whole::UnitRead;
+use std::cmp::Ordering;
+use types::refusal::{Refusal, Types, types_of};
+use types::value::AmlType;
+use value::convert::Converted;
+use value::status::StatusObject;
 
-// It comes back in two registers.
+// The C interface: numbers for what is a Result below it. It comes back in two registers.
 // status: document 01's number of the refusal, 0 where there is none; 255 where the host named a kind that is none. present, wanted: ACPI's
 // numbers of the types that a refusal carries. kind: the value's, by the number that a host's value has, 0 where there is no value.
 // count: the loads and stores made. value: an Integer, 0 or 1 of a Boolean, or how many bytes a Buffer or a String has.
@@ -61,8 +62,8 @@ fn present_of(types: Types) -> u8
 {
     match types {
         Types::Nothing => 0,
-        Types::Met(met) => type_number(met),
-        Types::Conversion { current, target: _ } => type_number(current),
+        Types::Met(met) => u8::from(met),
+        Types::Conversion { current, target: _ } => u8::from(current),
     }
 }
 
@@ -72,20 +73,25 @@ fn wanted_of(types: Types) -> u8
     match types {
         Types::Nothing => 0,
         Types::Met(_) => 0,
-        Types::Conversion { current: _, target } => type_number(target),
+        Types::Conversion { current: _, target } => u8::from(target),
     }
 }
 
-// A refusal's number and its two types, a byte each: a word stays in a register where an answer would go through memory.
-pub(crate) fn word_of(r: Refusal) -> u32
+// A refusal's number and its two types, a byte each: a word stays in a register where an answer would go through memory. Summed as the
+// definition has it (specs/Words).
+#[tactic(auto, unfolding(crate::specs::Words::word_of))]
+fn word_of(r: Refusal) -> u32
     ensures { result ≡ word_of r }
 {
     let types = types_of(r);
-    number(r) as u32 + 256 * present_of(types) as u32 + 65536 * wanted_of(types) as u32
+    u32::from(u8::from(r))
+        + 256 * u32::from(present_of(types))
+        + 65536 * u32::from(wanted_of(types))
 }
 
 // The answer of such a word.
-pub(crate) fn refused(word: u32) -> Answer
+#[tactic(auto, unfolding(crate::specs::Words::of_word))]
+fn refused(word: u32) -> Answer
     ensures { result ≡ of_word word }
 {
     carrying(
@@ -95,149 +101,134 @@ pub(crate) fn refused(word: u32) -> Answer
     )
 }
 
+// What a call gave, or the refusal.
+#[tactic(auto, using(crate::proofs::Numbers::by_word))]
+pub(crate) fn told<T, F: FnOnce(T) -> Answer>(r: Result<T, Refusal>, f: F) -> Answer
+    requires { ForOk r (F.pre f) }
+    ensures { MatchResult r (λ x. F.post f x result) (λ why. result ≡ refused_by why) }
+{
+    match r {
+        Ok(x) => f(x),
+        Err(why) => refused(word_of(why)),
+    }
+}
+
+#[tactic(auto, unfolding(crate::specs::Answers::no_such_kind))]
 pub(crate) fn no_such_kind() -> Answer
     ensures { result ≡ no_such_kind }
 {
     carrying(255, 0, 0)
 }
 
+#[tactic(auto, unfolding(crate::specs::Answers::kind_answer))]
 pub(crate) fn kind_answer(t: AmlType) -> Answer
     ensures { result ≡ kind_answer t }
 {
-    accepted(type_number(t), 0, 0)
+    accepted(u8::from(t), 0, 0)
 }
 
-pub(crate) fn integer_answer(r: IntegerAnswer) -> Answer
+#[tactic(auto, unfolding(crate::specs::Answers::integer_answer))]
+pub(crate) fn integer_answer(r: Result<u64, Refusal>) -> Answer
     ensures { result ≡ integer_answer r }
 {
-    match r {
-        IntegerAnswer::Integer(n) => accepted(1, 0, n),
-        IntegerAnswer::Refused(why) => refused(word_of(why)),
-    }
+    told(r, |n| accepted(1, 0, n))
 }
 
-// n where b holds.
-fn where_set(b: bool, n: u64) -> u64
-    ensures { (result ≡ cond b n 0) × (result ≤ n) }
-{
-    if b { n } else { 0 }
-}
-
-pub(crate) fn bool_answer(r: BoolAnswer) -> Answer
+#[tactic(auto, unfolding(crate::specs::Answers::bool_answer))]
+pub(crate) fn bool_answer(r: Result<bool, Refusal>) -> Answer
     ensures { result ≡ bool_answer r }
 {
-    match r {
-        BoolAnswer::Bool(b) => accepted(17, 0, where_set(b, 1)),
-        BoolAnswer::Refused(why) => refused(word_of(why)),
-    }
+    told(r, |b| accepted(17, 0, u64::from(b)))
 }
 
 // A Buffer's or a String's bytes stand at the front of the output.
-pub(crate) fn bytes_answer(kind: u8, r: LengthAnswer) -> Answer
+#[tactic(auto, unfolding(crate::specs::Answers::bytes_answer))]
+pub(crate) fn bytes_answer(kind: u8, r: Result<usize, Refusal>) -> Answer
     ensures { result ≡ bytes_answer kind r }
 {
-    match r {
-        LengthAnswer::Length(n) => accepted(kind, 0, n as u64),
-        LengthAnswer::Refused(why) => refused(word_of(why)),
-    }
+    told(r, |n| accepted(kind, 0, n as u64))
 }
 
-pub(crate) fn type_answer(r: TypeAnswer) -> Answer
+#[tactic(auto, unfolding(crate::specs::Answers::type_answer))]
+pub(crate) fn type_answer(r: Result<Converted, Refusal>) -> Answer
     ensures { result ≡ type_answer r }
 {
-    match r {
-        TypeAnswer::Same => accepted(0, 0, 0),
-        TypeAnswer::Integer(n) => accepted(1, 0, n),
-        TypeAnswer::Buffer(n) => accepted(3, 0, n as u64),
-        TypeAnswer::Refused(why) => refused(word_of(why)),
-    }
+    told(r, |c| match c {
+        Converted::Same => accepted(0, 0, 0),
+        Converted::Integer(n) => accepted(1, 0, n),
+        Converted::Buffer(n) => accepted(3, 0, n as u64),
+    })
 }
 
-// Bits 0 to 4, as _STA has them.
-pub(crate) fn status_number(s: StatusObject) -> u64
-    ensures { result ≡ status_number s }
-{
-    let low = where_set(s.present, 1) + where_set(s.enabled, 2) + where_set(s.show_in_ui, 4);
-    low + where_set(s.functional, 8) + where_set(s.battery_present, 16)
-}
-
-pub(crate) fn status_answer(r: StatusAnswer) -> Answer
+// Like bool_answer, by a definition of its own.
+#[tactic(auto, unfolding(crate::specs::Answers::status_answer))]
+pub(crate) fn status_answer(r: Result<StatusObject, Refusal>) -> Answer
     ensures { result ≡ status_answer r }
 {
-    match r {
-        StatusAnswer::Status(s) => accepted(1, 0, status_number(s)),
-        StatusAnswer::Refused(why) => refused(word_of(why)),
-    }
+    told(r, |s| accepted(1, 0, u64::from(s)))
 }
 
-// 0, 1, 2 for less, equal, greater.
-pub(crate) fn compare_answer(r: CompareAnswer) -> Answer
+// 0, 1, 2 for less, equal, greater: the C interface's numbers, by a definition of their own.
+#[tactic(auto, unfolding(crate::specs::Answers::compare_answer))]
+pub(crate) fn compare_answer(r: Result<Ordering, Refusal>) -> Answer
     ensures { result ≡ compare_answer r }
 {
-    match r {
-        CompareAnswer::Less => accepted(1, 0, 0),
-        CompareAnswer::Equal => accepted(1, 0, 1),
-        CompareAnswer::Greater => accepted(1, 0, 2),
-        CompareAnswer::Refused(why) => refused(word_of(why)),
-    }
+    told(r, |order| match order {
+        Ordering::Less => accepted(1, 0, 0),
+        Ordering::Equal => accepted(1, 0, 1),
+        Ordering::Greater => accepted(1, 0, 2),
+    })
 }
 
-pub(crate) fn concat_answer(r: ConcatAnswer) -> Answer
+#[tactic(auto, unfolding(crate::specs::Answers::concat_answer))]
+pub(crate) fn concat_answer(r: Result<ConcatValue, Refusal>) -> Answer
     ensures { result ≡ concat_answer r }
 {
-    match r {
-        ConcatAnswer::String(n) => accepted(2, 0, n as u64),
-        ConcatAnswer::Buffer(n) => accepted(3, 0, n as u64),
-        ConcatAnswer::Refused(why) => refused(word_of(why)),
-    }
+    told(r, |joined| match joined {
+        ConcatValue::String(n) => accepted(2, 0, n as u64),
+        ConcatValue::Buffer(n) => accepted(3, 0, n as u64),
+    })
 }
 
 // A part of so many bytes at a place of the source.
-pub(crate) fn place_answer(kind: u8, r: Place) -> Answer
+#[tactic(auto, unfolding(crate::specs::Answers::place_answer))]
+pub(crate) fn place_answer(kind: u8, r: Result<Part, Refusal>) -> Answer
     requires { place_count r ≤ 65536 }
     ensures { result ≡ place_answer kind r }
 {
-    match r {
-        Place::At(at, count) => accepted(kind, count as u32, at),
-        Place::Refused(why) => refused(word_of(why)),
-    }
+    told(r, |part| accepted(kind, part.count as u32, part.at))
 }
 
-pub(crate) fn read_answer(r: FieldRead) -> Answer
+#[tactic(auto, unfolding(crate::specs::Answers::read_answer))]
+pub(crate) fn read_answer(r: Result<FieldValue, Refusal>) -> Answer
     ensures { result ≡ read_answer r }
 {
-    match r {
-        FieldRead::Integer(x) => accepted(1, 0, x),
-        FieldRead::Buffer(n) => accepted(3, 0, n as u64),
-        FieldRead::Refused(why) => refused(word_of(why)),
-    }
+    told(r, |read| match read {
+        FieldValue::Integer(x) => accepted(1, 0, x),
+        FieldValue::Buffer(n) => accepted(3, 0, n as u64),
+    })
 }
 
-pub(crate) fn outcome_answer(r: Outcome) -> Answer
+#[tactic(auto, unfolding(crate::specs::Answers::outcome_answer))]
+pub(crate) fn outcome_answer(r: Result<(), Refusal>) -> Answer
     ensures { result ≡ outcome_answer r }
 {
-    match r {
-        Outcome::Done => accepted(0, 0, 0),
-        Outcome::Refused(why) => refused(word_of(why)),
-    }
+    told(r, |_| accepted(0, 0, 0))
 }
 
-pub(crate) fn unit_read_answer(r: UnitRead) -> Answer
+// The bound on the count stays a clause, here and in the two like it: it is a fact of what field_unit answers, which its own clauses say.
+#[tactic(auto, unfolding(crate::specs::Answers::unit_read_answer))]
+pub(crate) fn unit_read_answer(r: Result<UnitRead, Refusal>) -> Answer
     requires { read_count r ≤ 11 }
     ensures { result ≡ unit_read_answer r }
 {
-    match r {
-        UnitRead::Value { value, count } => accepted(1, count as u32, value),
-        UnitRead::Refused(why) => refused(word_of(why)),
-    }
+    told(r, |read| accepted(1, read.count as u32, read.value))
 }
 
-pub(crate) fn unit_written_answer(r: UnitWritten) -> Answer
+#[tactic(auto, unfolding(crate::specs::Answers::unit_written_answer))]
+pub(crate) fn unit_written_answer(r: Result<u64, Refusal>) -> Answer
     requires { written_count r ≤ 11 }
     ensures { result ≡ unit_written_answer r }
 {
-    match r {
-        UnitWritten::Count(count) => accepted(0, count as u32, 0),
-        UnitWritten::Refused(why) => refused(word_of(why)),
-    }
+    told(r, |count| accepted(0, count as u32, 0))
 }

@@ -1,4 +1,6 @@
 // Buffer fields of a lent buffer.
+#![tactic(auto, using(crate::proofs::Known::no_value, crate::proofs::Known::is_value))]
+
 ghost use Rattle.std.specs.Prelude.{◌≡◌, []};
 ghost use Rattle.types.specs.declared.value.AmlValue.TheVariants as Val;
 ghost use Rattle.buffer_field.specs.BufferFields.{read, write, write_self};
@@ -6,7 +8,7 @@ ghost use Rattle.link.specs.Answers.{read_answer, outcome_answer, no_such_kind};
 ghost use Rattle.link.specs.Values.{with_value};
 
 use crate::answer::{Answer, no_such_kind, outcome_answer, read_answer};
-use crate::given::{Given, HostValue, given_of};
+use crate::given::HostValue;
 use buffer_field::{
     read_buffer_field, write_buffer_field, write_buffer_field_bytes, write_buffer_field_integer,
     write_buffer_field_self,
@@ -62,8 +64,7 @@ pub extern "C" fn aml_write_buffer_field(
 ) -> Answer
     ensures { (result ≡ with_value given (λ v. outcome_answer (write buffer.old offset length v bytes.now).answer) no_such_kind) × (buffer.new ≡ with_value given (λ v. (write buffer.old offset length v bytes.now).buffer) buffer.old) }
 {
-    let g = given_of(given);
-    let Given::Value(v) = g else {
+    let Some(v) = given.value() else {
         return no_such_kind();
     };
     outcome_answer(write_buffer_field(buffer, offset, length, v, bytes))

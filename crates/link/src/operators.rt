@@ -1,4 +1,6 @@
-// The operators. Bytes are lent beside each operand.
+// The operators. Bytes are lent beside each operand. Exports alike but for the call stay apart: the C interface has a name for each.
+#![tactic(auto, using(crate::proofs::Known::no_value, crate::proofs::Known::is_value, crate::proofs::Known::no_left, crate::proofs::Known::no_right, crate::proofs::Known::are_values))]
+
 ghost use Rattle.std.specs.Prelude.{◌≡◌};
 ghost use Rattle.expression.specs.Numbers as E;
 ghost use Rattle.expression.specs.Compare.{compare};
@@ -11,7 +13,7 @@ ghost use Rattle.link.specs.Values.{with_value, with_both};
 use crate::answer::{
     Answer, bytes_answer, compare_answer, concat_answer, integer_answer, no_such_kind, place_answer,
 };
-use crate::given::{Given, HostValue, given_of};
+use crate::given::HostValue;
 use expression::buffer::def_buffer;
 use expression::compare::compare;
 use expression::concat::{def_concat, def_concat_res};
@@ -30,12 +32,10 @@ pub extern "C" fn aml_add(
 ) -> Answer
     ensures { result ≡ with_both left right (λ l r. integer_answer (E.binary E.add l left_bytes.now r right_bytes.now)) no_such_kind }
 {
-    let g = given_of(left);
-    let Given::Value(l) = g else {
+    let Some(l) = left.value() else {
         return no_such_kind();
     };
-    let h = given_of(right);
-    let Given::Value(r) = h else {
+    let Some(r) = right.value() else {
         return no_such_kind();
     };
     integer_answer(def_add(l, left_bytes, r, right_bytes))
@@ -51,12 +51,10 @@ pub extern "C" fn aml_and(
 ) -> Answer
     ensures { result ≡ with_both left right (λ l r. integer_answer (E.binary E.and l left_bytes.now r right_bytes.now)) no_such_kind }
 {
-    let g = given_of(left);
-    let Given::Value(l) = g else {
+    let Some(l) = left.value() else {
         return no_such_kind();
     };
-    let h = given_of(right);
-    let Given::Value(r) = h else {
+    let Some(r) = right.value() else {
         return no_such_kind();
     };
     integer_answer(def_and(l, left_bytes, r, right_bytes))
@@ -72,12 +70,10 @@ pub extern "C" fn aml_shift_left(
 ) -> Answer
     ensures { result ≡ with_both left right (λ l r. integer_answer (E.binary E.shift_left l left_bytes.now r right_bytes.now)) no_such_kind }
 {
-    let g = given_of(left);
-    let Given::Value(l) = g else {
+    let Some(l) = left.value() else {
         return no_such_kind();
     };
-    let h = given_of(right);
-    let Given::Value(r) = h else {
+    let Some(r) = right.value() else {
         return no_such_kind();
     };
     integer_answer(def_shift_left(l, left_bytes, r, right_bytes))
@@ -93,12 +89,10 @@ pub extern "C" fn aml_shift_right(
 ) -> Answer
     ensures { result ≡ with_both left right (λ l r. integer_answer (E.binary E.shift_right l left_bytes.now r right_bytes.now)) no_such_kind }
 {
-    let g = given_of(left);
-    let Given::Value(l) = g else {
+    let Some(l) = left.value() else {
         return no_such_kind();
     };
-    let h = given_of(right);
-    let Given::Value(r) = h else {
+    let Some(r) = right.value() else {
         return no_such_kind();
     };
     integer_answer(def_shift_right(l, left_bytes, r, right_bytes))
@@ -109,8 +103,7 @@ pub extern "C" fn aml_shift_right(
 pub extern "C" fn aml_increment(given: HostValue, bytes: &[u8]) -> Answer
     ensures { result ≡ with_value given (λ v. integer_answer (E.unary E.increment v bytes.now)) no_such_kind }
 {
-    let g = given_of(given);
-    let Given::Value(v) = g else {
+    let Some(v) = given.value() else {
         return no_such_kind();
     };
     integer_answer(def_increment(v, bytes))
@@ -121,8 +114,7 @@ pub extern "C" fn aml_increment(given: HostValue, bytes: &[u8]) -> Answer
 pub extern "C" fn aml_decrement(given: HostValue, bytes: &[u8]) -> Answer
     ensures { result ≡ with_value given (λ v. integer_answer (E.unary E.decrement v bytes.now)) no_such_kind }
 {
-    let g = given_of(given);
-    let Given::Value(v) = g else {
+    let Some(v) = given.value() else {
         return no_such_kind();
     };
     integer_answer(def_decrement(v, bytes))
@@ -138,12 +130,10 @@ pub extern "C" fn aml_compare(
 ) -> Answer
     ensures { result ≡ with_both left right (λ l r. compare_answer (compare l left_bytes.now r right_bytes.now)) no_such_kind }
 {
-    let g = given_of(left);
-    let Given::Value(l) = g else {
+    let Some(l) = left.value() else {
         return no_such_kind();
     };
-    let h = given_of(right);
-    let Given::Value(r) = h else {
+    let Some(r) = right.value() else {
         return no_such_kind();
     };
     compare_answer(compare(l, left_bytes, r, right_bytes))
@@ -160,12 +150,10 @@ pub extern "C" fn aml_concat(
 ) -> Answer
     ensures { (result ≡ with_both left right (λ l r. concat_answer (concat l left_bytes.now r right_bytes.now out.old).answer) no_such_kind) × (out.new ≡ with_both left right (λ l r. (concat l left_bytes.now r right_bytes.now out.old).out) out.old) }
 {
-    let g = given_of(left);
-    let Given::Value(l) = g else {
+    let Some(l) = left.value() else {
         return no_such_kind();
     };
-    let h = given_of(right);
-    let Given::Value(r) = h else {
+    let Some(r) = right.value() else {
         return no_such_kind();
     };
     concat_answer(def_concat(l, left_bytes, r, right_bytes, out))
@@ -182,18 +170,17 @@ pub extern "C" fn aml_concat_res(
 ) -> Answer
     ensures { (result ≡ with_both left right (λ l r. bytes_answer 3 (concat_res l left_bytes.now r right_bytes.now out.old).answer) no_such_kind) × (out.new ≡ with_both left right (λ l r. (concat_res l left_bytes.now r right_bytes.now out.old).out) out.old) }
 {
-    let g = given_of(left);
-    let Given::Value(l) = g else {
+    let Some(l) = left.value() else {
         return no_such_kind();
     };
-    let h = given_of(right);
-    let Given::Value(r) = h else {
+    let Some(r) = right.value() else {
         return no_such_kind();
     };
     bytes_answer(3, def_concat_res(l, left_bytes, r, right_bytes, out))
 }
 
 // Mid. The part is the source's own bytes: the answer's count says how many, its value where they begin.
+#[tactic(auto, using(crate::proofs::Known::no_value, crate::proofs::Known::is_value, crate::proofs::Known::no_left, crate::proofs::Known::no_right, crate::proofs::Known::are_values, crate::proofs::Parts::mid_count))]
 #[unsafe(no_mangle)]
 pub extern "C" fn aml_mid(
     source: HostValue,
@@ -205,16 +192,13 @@ pub extern "C" fn aml_mid(
 ) -> Answer
     ensures { result ≡ with_value source (λ v. with_both index length (λ i n. place_answer source.kind (mid_place v source_bytes.now i index_bytes.now n length_bytes.now)) no_such_kind) no_such_kind }
 {
-    let g = given_of(source);
-    let Given::Value(v) = g else {
+    let Some(v) = source.value() else {
         return no_such_kind();
     };
-    let h = given_of(index);
-    let Given::Value(i) = h else {
+    let Some(i) = index.value() else {
         return no_such_kind();
     };
-    let m = given_of(length);
-    let Given::Value(n) = m else {
+    let Some(n) = length.value() else {
         return no_such_kind();
     };
     let placed = def_mid_place(v, source_bytes, i, index_bytes, n, length_bytes);
@@ -231,8 +215,7 @@ pub extern "C" fn aml_buffer(
 ) -> Answer
     ensures { (result ≡ with_value given (λ v. bytes_answer 3 (build_buffer v bytes.now initial.now out.old).answer) no_such_kind) × (out.new ≡ with_value given (λ v. (build_buffer v bytes.now initial.now out.old).out) out.old) }
 {
-    let g = given_of(given);
-    let Given::Value(v) = g else {
+    let Some(v) = given.value() else {
         return no_such_kind();
     };
     bytes_answer(3, def_buffer(v, bytes, initial, out))

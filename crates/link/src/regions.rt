@@ -1,4 +1,6 @@
 // Field units of a lent region, and single units of it.
+#![tactic(auto, using(crate::proofs::Known::no_value, crate::proofs::Known::is_value, crate::proofs::Counts::read_most, crate::proofs::Counts::write_most, crate::proofs::Counts::value_most))]
+
 ghost use Rattle.std.specs.Prelude.{◌≡◌, ◌*◌, min};
 ghost use Rattle.bits.specs.Bits.{get_bits, set_bits};
 ghost use Rattle.field_unit.specs.Calls.{read_field, write_field};
@@ -8,7 +10,7 @@ ghost use Rattle.link.specs.Values.{with_value};
 ghost use Rattle.value.specs.FieldWrites.{write_value};
 
 use crate::answer::{Answer, no_such_kind, unit_read_answer, unit_written_answer};
-use crate::given::{Given, HostValue, field_of, given_of};
+use crate::given::{HostValue, field_of};
 use field_unit::whole::{read_field, write_field};
 use value::field::{write_value, write_value_self};
 
@@ -54,8 +56,7 @@ pub extern "C" fn aml_write_value(
 ) -> Answer
     ensures { (result ≡ with_value given (λ v. unit_written_answer (write_value region.old (field_of space flags offset length) v bytes.now).answer) no_such_kind) × (region.new ≡ with_value given (λ v. (write_value region.old (field_of space flags offset length) v bytes.now).region) region.old) }
 {
-    let g = given_of(given);
-    let Given::Value(v) = g else {
+    let Some(v) = given.value() else {
         return no_such_kind();
     };
     unit_written_answer(write_value(region, field_of(space, flags, offset, length), v, bytes))
@@ -73,8 +74,7 @@ pub extern "C" fn aml_write_value_self(
 ) -> Answer
     ensures { (result ≡ with_value given (λ v. unit_written_answer (write_value region.old (field_of space flags offset length) v region.old).answer) no_such_kind) × (region.new ≡ with_value given (λ v. (write_value region.old (field_of space flags offset length) v region.old).region) region.old) }
 {
-    let g = given_of(given);
-    let Given::Value(v) = g else {
+    let Some(v) = given.value() else {
         return no_such_kind();
     };
     unit_written_answer(write_value_self(region, field_of(space, flags, offset, length), v))

@@ -1,16 +1,17 @@
 // The task table, as a struct of numbers that the host keeps: it goes in by value and comes back beside the answer. Any numbers are a table; a
 // damaged one is 31. Padding there is none, so two tables are equal where their bytes are.
-ghost use Rattle.std.specs.Prelude.{◌≡◌, cond, ◌<◌, ◌≤◌};
+ghost use Rattle.std.specs.Prelude.{IfOk, ◌≡◌, ◌<◌, ◌≤◌};
+ghost use Rattle.types.specs.Refusals.{first_of};
 ghost use Rattle.task.specs.Tasks as T;
 ghost use Rattle.link.specs.Tables as L;
 
-use crate::answer::{Answer, accepted, outcome_answer, refused, word_of};
-use crate::given::{field_of, space_number};
+use crate::answer::{Answer, accepted, outcome_answer, told};
+use crate::given::field_of;
 use field_unit::access::FieldOp;
 use task::one::{check_call, start_task, step_task};
-use task::table::{StartAnswer, StepAnswer, Table, Task};
+use task::table::{Step, Table, Task};
 use task::well::malformed_by;
-use types::refusal::Outcome;
+use types::refusal::Refusal;
 
 // busy, write: 0 or 1. space, flags, offset, length: its field. value: what it writes. made: its loads and stores so far. held: what its loads gave.
 #[repr(C)]
@@ -36,7 +37,7 @@ pub struct HostTable {
     pub tasks: [HostTask; 4],
 }
 
-// The table after a call, and its answer.
+// The table after a call, and its answer: the C interface.
 #[repr(C)]
 #[derive(Clone, Copy)]
 pub struct Called {
@@ -67,55 +68,38 @@ fn length_said(busy: u32, write: u16, length: u64) -> u64
     length
 }
 
-fn task_of(k: HostTask) -> Task
-    ensures { result ≡ L.task_of k }
-{
-    let length = length_said(k.busy, k.write, k.length);
-    Task {
-        busy: k.busy != 0,
-        op: op_of(k.write, k.space, k.flags, k.offset, length, k.value),
-        made: k.made,
-        held: k.held,
+// A task of numbers.
+impl From<HostTask> for Task {
+    ghost from_gives = { λ k t. t ≡ L.task_of k };
+
+    fn from(k: HostTask) -> Task {
+        let length = length_said(k.busy, k.write, k.length);
+        Task {
+            busy: k.busy != 0,
+            op: op_of(k.write, k.space, k.flags, k.offset, length, k.value),
+            made: k.made,
+            held: k.held,
+        }
     }
 }
 
-fn task_at(table: HostTable, task: usize) -> Task
-    requires { task < 4 }
-    ensures { result ≡ L.task_of (L.host_task_at table task) }
-{
-    let k = table.tasks[task];
-    task_of(k)
-}
+// And back.
+impl From<Task> for HostTask {
+    ghost from_gives = { λ t k. k ≡ L.numbers_of_task t };
 
-fn busy_number(b: bool) -> u32
-    ensures { result ≡ cond b 1 0 }
-{
-    if b { 1 } else { 0 }
-}
-
-fn write_number(b: bool) -> u16
-    ensures { result ≡ cond b 1 0 }
-{
-    if b { 1 } else { 0 }
-}
-
-fn numbers_of_task(k: Task) -> HostTask
-    ensures { result ≡ L.numbers_of_task k }
-{
-    let op = k.op;
-    let field = op.field;
-    let flags = field.flags;
-    let space = field.space;
-    HostTask {
-        busy: busy_number(k.busy),
-        write: write_number(op.write),
-        space: space_number(space),
-        flags: flags.0,
-        offset: field.offset,
-        length: field.length,
-        value: op.value,
-        made: k.made,
-        held: k.held,
+    fn from(t: Task) -> HostTask {
+        let field = t.op.field;
+        HostTask {
+            busy: u32::from(t.busy),
+            write: u16::from(t.op.write),
+            space: u8::from(field.space),
+            flags: field.flags.0,
+            offset: field.offset,
+            length: field.length,
+            value: t.op.value,
+            made: t.made,
+            held: t.held,
+        }
     }
 }
 
@@ -136,29 +120,28 @@ fn fresh_numbers(size: u64) -> HostTable
     HostTable {
         size,
         holder: 4,
-        tasks: [k, k, k, k],
+        tasks: [k; 4],
     }
 }
 
-fn start_answer(a: StartAnswer) -> Answer
+// As unit_written_answer, by a definition of its own: the wrong program "start_answer: the count stands in its place" names this function.
+#[tactic(auto, unfolding(crate::specs::Tables::start_answer))]
+fn start_answer(a: Result<u64, Refusal>) -> Answer
     requires { L.start_count a ≤ 11 }
     ensures { result ≡ L.start_answer a }
 {
-    match a {
-        StartAnswer::Count(n) => accepted(0, n as u32, 0),
-        StartAnswer::Refused(why) => refused(word_of(why)),
-    }
+    told(a, |n| accepted(0, n as u32, 0))
 }
 
-fn step_answer(a: StepAnswer) -> Answer
+#[tactic(auto, unfolding(crate::specs::Tables::step_answer))]
+fn step_answer(a: Result<Step, Refusal>) -> Answer
     ensures { result ≡ L.step_answer a }
 {
-    match a {
-        StepAnswer::More => accepted(0, 1, 0),
-        StepAnswer::Done => accepted(0, 0, 0),
-        StepAnswer::Value(x) => accepted(1, 0, x),
-        StepAnswer::Refused(why) => refused(word_of(why)),
-    }
+    told(a, |step| match step {
+        Step::More => accepted(0, 1, 0),
+        Step::Done => accepted(0, 0, 0),
+        Step::Value(x) => accepted(1, 0, x),
+    })
 }
 
 // A table for a region of size bytes; one for no bytes beside a refusal.
@@ -167,29 +150,72 @@ pub extern "C" fn aml_new_table(size: u64) -> Called
     ensures { result ≡ L.new_call size }
 {
     let made = Table::new(size);
-    let table = made.table;
-    let answer = made.answer;
     Called {
-        table: fresh_numbers(table.size),
-        answer: outcome_answer(answer),
+        table: fresh_numbers(made.table.size),
+        answer: outcome_answer(made.answer),
     }
 }
 
+#[tactic(auto, unfolding(task::specs::Tasks::malformed))]
 #[unsafe(no_mangle)]
 pub extern "C" fn aml_is_malformed(table: HostTable) -> bool
     ensures { result ≡ T.malformed (L.table_of table) }
 {
-    let a = task_at(table, 0);
-    let b = task_at(table, 1);
-    let c = task_at(table, 2);
-    let d = task_at(table, 3);
-    malformed_by(table.size, table.holder, a, b, c, d)
+    let [a, b, c, d] = table.tasks;
+    malformed_by(
+        table.size,
+        table.holder,
+        Task::from(a),
+        Task::from(b),
+        Task::from(c),
+        Task::from(d),
+    )
+}
+
+impl HostTable {
+    // 27, 31, 24, 30: what start and step check alike.
+    #[tactic(auto, using(crate::proofs::Hosted::host_small))]
+    fn check(&self, bytes: usize, task: usize) -> Result<(), Refusal>
+        ensures says { result ≡ first_of (T.call_checks (L.table_of self.now) bytes task) }
+        ensures few { IfOk result (λ _. task < 4) }
+    {
+        check_call(aml_is_malformed(*self), self.size, bytes, task)
+    }
+
+    // As Table::start.
+    #[tactic(auto, using(crate::proofs::Hosted::start_refused, crate::proofs::Hosted::start_kept, crate::proofs::Hosted::start_few))]
+    fn start(&mut self, region: &[u8], task: usize, op: FieldOp) -> Result<u64, Refusal>
+        ensures says { (record { table = self.new; answer = L.start_answer result }) ≡ L.start_call self.old region.now task op }
+        ensures few { L.start_count result ≤ 11 }
+    {
+        self.check(region.len(), task)?;
+        let count = start_task(self.size, Task::from(self.tasks[task]).busy, op)?;
+        self.tasks[task] = HostTask::from(Task {
+            busy: true,
+            op,
+            made: 0,
+            held: 0,
+        });
+        Ok(count)
+    }
+
+    // As Table::step.
+    #[tactic(auto, using(crate::proofs::Hosted::step_refused, crate::proofs::Hosted::step_kept))]
+    fn step(&mut self, region: &mut [u8], task: usize) -> Result<Step, Refusal>
+        ensures { ((record { table = self.new; answer = L.step_answer result }) ≡ L.step_call self.old region.old task) × (region.new ≡ T.step_region (L.table_of self.old) region.old task) }
+    {
+        self.check(region.len(), task)?;
+        let mut k = Task::from(self.tasks[task]);
+        let moved = step_task(&mut self.holder, task, &mut k, region)?;
+        self.tasks[task] = HostTask::from(k);
+        Ok(moved)
+    }
 }
 
 // Accepts a read (write is 0), or a write of a value, for the task. The answer's count says how many loads and stores it will make.
 #[unsafe(no_mangle)]
 pub extern "C" fn aml_start(
-    table: HostTable,
+    mut table: HostTable,
     region: &[u8],
     task: usize,
     write: u16,
@@ -202,66 +228,15 @@ pub extern "C" fn aml_start(
     ensures { result ≡ L.start_call table region.now task (L.op_of write space flags offset length value) }
 {
     let op = op_of(write, space, flags, offset, length, value);
-    let malformed = aml_is_malformed(table);
-    let checked = check_call(malformed, table.size, region.len(), task);
-    if let Outcome::Refused(_) = checked {
-        return Called {
-            table,
-            answer: outcome_answer(checked),
-        };
-    }
-    let host = table.tasks[task];
-    let k = task_of(host);
-    let started = start_task(table.size, k.busy, op);
-    if let StartAnswer::Refused(_) = started {
-        return Called {
-            table,
-            answer: start_answer(started),
-        };
-    }
-    let begun = Task {
-        busy: true,
-        op,
-        made: 0,
-        held: 0,
-    };
-    let mut next = table;
-    next.tasks[task] = numbers_of_task(begun);
-    Called {
-        table: next,
-        answer: start_answer(started),
-    }
+    let answer = start_answer(table.start(region, task, op));
+    Called { table, answer }
 }
 
 // Makes the task's next load or store on the region. The answer's count is 1 while there are more to come.
 #[unsafe(no_mangle)]
-pub extern "C" fn aml_step(table: HostTable, region: &mut [u8], task: usize) -> Called
+pub extern "C" fn aml_step(mut table: HostTable, region: &mut [u8], task: usize) -> Called
     ensures { (result ≡ L.step_call table region.old task) × (region.new ≡ T.step_region (L.table_of table) region.old task) }
 {
-    let malformed = aml_is_malformed(table);
-    let checked = check_call(malformed, table.size, region.len(), task);
-    if let Outcome::Refused(_) = checked {
-        return Called {
-            table,
-            answer: outcome_answer(checked),
-        };
-    }
-    let host = table.tasks[task];
-    let k = task_of(host);
-    let moved = step_task(table.holder, task, k, region);
-    let answer = moved.answer;
-    let after = moved.task;
-    if !moved.accepted {
-        return Called {
-            table,
-            answer: step_answer(answer),
-        };
-    }
-    let mut next = table;
-    next.holder = moved.holder;
-    next.tasks[task] = numbers_of_task(after);
-    Called {
-        table: next,
-        answer: step_answer(answer),
-    }
+    let answer = step_answer(table.step(region, task));
+    Called { table, answer }
 }

@@ -3,7 +3,6 @@
 #![tactic(auto)]
 
 use std::io::{self, Read, Write};
-use value::convert::LengthAnswer;
 
 fn main(rt: HostRuntime) -> io::Result<()> {
     let mut text = [0u8; 65537];
@@ -19,7 +18,7 @@ fn answer(
     out: &mut [u8; 589860],
 ) -> io::Result<()> {
     let n = input::read_full(input, text)?;
-    if let LengthAnswer::Length(m) = script::script(&text[..n], out) {
+    if let Ok(m) = script::script(&text[..n], out) {
         return write_first(output, out, m);
     }
     Ok(())

@@ -2,97 +2,148 @@
 ghost use Rattle.std.specs.Prelude.{◌<◌};
 
 use field_unit::access::FieldOp;
-use std::num::{wrapping_add_u64, wrapping_sub_u64};
+use std::fmt;
 use types::flags::FieldFlags;
 use types::value::{FieldUnit, RegionSpace};
 
 // Where the tasks' fields lie: all on the same bytes, on other bits of one byte, or on bytes of their own.
 #[derive(Clone, Copy)]
 pub enum Place {
-    Same,
+    SameBytes,
     OneByte,
-    Apart,
+    BytesApart,
+}
+
+// Which tasks carry the lock rule.
+#[derive(Clone, Copy)]
+pub enum Locks {
+    Nobody,
+    First,
+    All,
+}
+
+// The schedules with their fields in this place and their lock rule with these tasks.
+#[derive(Clone, Copy)]
+pub struct Group {
+    pub place: Place,
+    pub locks: Locks,
+}
+
+// An operation at an offset, of a length.
+#[derive(Clone, Copy)]
+pub enum Shape {
+    Read(u64, u64),
+    Write(u64, u64),
+    WriteAsOnes(u64, u64),
 }
 
 // Reads of 8, 12 and 20 bits in 1, 2 and 3 loads; writes of 8, 4 and 12 bits in 1, 2 and 3 loads and stores.
-const OFFSETS: [u8; 6] = [0, 4, 2, 0, 2, 4];
+pub(crate) const ON_BYTES: &[Shape] = &[
+    Shape::Read(0, 8),
+    Shape::Read(4, 12),
+    Shape::Read(2, 20),
+    Shape::Write(0, 8),
+    Shape::Write(2, 4),
+    Shape::Write(4, 12),
+];
 
-const LENGTHS: [u8; 6] = [8, 12, 20, 8, 4, 12];
+// Those with at most two accesses.
+pub(crate) const SHORT_ON_BYTES: &[Shape] = &[
+    Shape::Read(0, 8),
+    Shape::Read(4, 12),
+    Shape::Write(0, 8),
+    Shape::Write(2, 4),
+];
+
+// On two bits: a read, a write under Preserve, a write as ones.
+const ON_BITS: &[Shape] = &[
+    Shape::Read(0, 2),
+    Shape::Write(0, 2),
+    Shape::WriteAsOnes(0, 2),
+];
 
 // What each task writes.
 const VALUES: [u64; 3] = [0x5a3c9, 0xc69a5, 0x37be1];
 
-fn wide(x: u8) -> u64 {
-    x as u64
-}
-
-fn times(n: usize, step: u64) -> u64
-    requires { n < 3 }
-{
-    if n == 0 {
-        return 0;
+impl Place {
+    // On bits of one byte there is one list; on whole bytes the given one.
+    pub(crate) fn shapes(self, on_bytes: &'static [Shape]) -> &'static [Shape] {
+        match self {
+            Place::OneByte => ON_BITS,
+            Place::SameBytes | Place::BytesApart => on_bytes,
+        }
     }
-    if n == 1 {
-        return step;
-    }
-    wrapping_add_u64(step, step)
-}
 
-fn flags(lock: bool, rule: u8) -> FieldFlags
-    requires { rule < 2 }
-{
-    if lock {
-        return FieldFlags::new(17 + 32 * rule);
-    }
-    FieldFlags::new(1 + 32 * rule)
-}
-
-fn operation(write: bool, flags: FieldFlags, offset: u64, length: u64, value: u64) -> FieldOp {
-    let field = FieldUnit {
-        space: RegionSpace::SystemMemory,
-        flags,
-        offset,
-        length,
-    };
-    FieldOp {
-        write,
-        field,
-        value,
+    // How many bits further on each task's field lies.
+    fn stride(self) -> u64 {
+        match self {
+            Place::SameBytes => 0,
+            Place::OneByte => 2,
+            Place::BytesApart => 32,
+        }
     }
 }
 
-// On bytes: one of the six above, 32 bits further for each task where they are apart.
-pub(crate) fn on_bytes(kind: usize, task: usize, apart: bool, lock: bool) -> FieldOp
-    requires { (kind < 6) × (task < 3) }
-{
-    let at = wide(OFFSETS[kind]);
-    let length = wide(LENGTHS[kind]);
-    if apart {
-        return operation(
-            3 <= kind,
-            flags(lock, 0),
-            wrapping_add_u64(at, times(task, 32)),
-            length,
-            VALUES[task],
-        );
+impl fmt::Display for Place {
+    fn fmt<W: fmt::Write>(&self, f: &mut fmt::Formatter<W>) -> fmt::Result {
+        f.write_str(match self {
+            Place::SameBytes => "same bytes",
+            Place::OneByte => "bits of one byte",
+            Place::BytesApart => "bytes apart",
+        })
     }
-    operation(3 <= kind, flags(lock, 0), at, length, VALUES[task])
 }
 
-// On two bits of byte 0, others for each task: a read, a write under Preserve, a write as ones.
-pub(crate) fn on_one_byte(kind: usize, task: usize, lock: bool) -> FieldOp
-    requires { (kind < 3) × (task < 3) }
-{
-    if kind == 2 {
-        return operation(true, flags(lock, 1), times(task, 2), 2, VALUES[task]);
+impl Locks {
+    fn carries(self, task: usize) -> bool {
+        match self {
+            Locks::Nobody => false,
+            Locks::First => task == 0,
+            Locks::All => true,
+        }
     }
-    operation(kind == 1, flags(lock, 0), times(task, 2), 2, VALUES[task])
 }
 
-fn width(op: FieldOp) -> u64 {
-    let field = op.field;
-    let flags = field.flags;
-    flags.access_width()
+impl fmt::Display for Locks {
+    fn fmt<W: fmt::Write>(&self, f: &mut fmt::Formatter<W>) -> fmt::Result {
+        f.write_str(match self {
+            Locks::Nobody => "no lock rule",
+            Locks::First => "lock rule of the first",
+            Locks::All => "lock rule of all",
+        })
+    }
+}
+
+impl Group {
+    // The task's operation of this shape. Its flags are a byte: Byte access, the lock rule's bit, the update rule's two.
+    pub(crate) fn operation(self, shape: Shape, task: usize) -> FieldOp
+        requires { task < 3 }
+    {
+        let (write, rule, offset, length) = match shape {
+            Shape::Read(offset, length) => (false, 0, offset, length),
+            Shape::Write(offset, length) => (true, 0, offset, length),
+            Shape::WriteAsOnes(offset, length) => (true, 1, offset, length),
+        };
+        let lock = u8::from(self.locks.carries(task));
+        let further = self.place.stride().wrapping_mul(task as u64);
+        FieldOp {
+            write,
+            field: FieldUnit {
+                space: RegionSpace::SystemMemory,
+                flags: FieldFlags::new(1 | (lock << 4) | (rule << 5)),
+                offset: offset.wrapping_add(further),
+                length,
+            },
+            value: VALUES[task],
+        }
+    }
+}
+
+impl fmt::Display for Group {
+    fn fmt<W: fmt::Write>(&self, f: &mut fmt::Formatter<W>) -> fmt::Result {
+        let Group { place, locks } = *self;
+        write!(f, "{place}, {locks}")
+    }
 }
 
 // The bit at which the unit that holds this bit begins.
@@ -100,39 +151,21 @@ fn unit_start(bit: u64, width: u64) -> u64 {
     if width == 0 {
         return bit;
     }
-    wrapping_sub_u64(bit, bit % width)
+    bit - bit % width
 }
 
 // Whether a unit that the one touches begins before the other's last unit ends.
 fn begins_before_end(a: FieldOp, b: FieldOp) -> bool {
-    let first = a.field;
-    let second = b.field;
-    let last_bit = wrapping_sub_u64(wrapping_add_u64(second.offset, second.length), 1);
-    let end = wrapping_add_u64(unit_start(last_bit, width(b)), width(b));
-    unit_start(first.offset, width(a)) < end
-}
-
-fn carries_lock(op: FieldOp) -> bool {
-    let field = op.field;
-    let flags = field.flags;
-    flags.lock_rule()
+    let last_bit = b.field.offset.wrapping_add(b.field.length).wrapping_sub(1);
+    let width = b.field.flags.access_width();
+    let end = unit_start(last_bit, width).wrapping_add(width);
+    unit_start(a.field.offset, a.field.flags.access_width()) < end
 }
 
 // "any two operations under way together that touch a common byte, one of them writing, both carry the lock rule"
 pub(crate) fn may_be_together(a: FieldOp, b: FieldOp) -> bool {
-    if !a.write {
-        if !b.write {
-            return true;
-        }
-    }
-    if !begins_before_end(a, b) {
-        return true;
-    }
-    if !begins_before_end(b, a) {
-        return true;
-    }
-    if carries_lock(a) {
-        return carries_lock(b);
-    }
-    false
+    (!a.write && !b.write)
+        || !begins_before_end(a, b)
+        || !begins_before_end(b, a)
+        || (a.field.flags.lock_rule() && b.field.flags.lock_rule())
 }

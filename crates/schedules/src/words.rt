@@ -1,18 +1,19 @@
 // All schedules of some operations: the words whose digits say each task as often as it has calls.
-ghost use Rattle.std.specs.Prelude.{◌<◌};
+use crate::run::{Run, Stage};
+use field_unit::access::FieldOp;
+use std::fmt;
+use std::ops::Add;
 
-use crate::run::{Ops, again, follow, opening, run_out};
-use std::num::wrapping_add_u64;
-use task::table::Table;
-
-// 3 to the power of the index.
-const WORDS: [u64; 13] = [
-    1, 3, 9, 27, 81, 243, 729, 2187, 6561, 19683, 59049, 177147, 531441,
-];
+// A task's operation, and how many calls it takes: its start and its accesses.
+#[derive(Clone, Copy)]
+pub struct Work {
+    pub op: FieldOp,
+    pub calls: u64,
+}
 
 // Schedules run; those that meet the premise, and of them those that agree with whole calls; those that do not meet it, and of them
 // those that differ; steps refused because another task held the lock; schedules in which an operation was left over.
-#[derive(Clone, Copy)]
+#[derive(Clone, Copy, Default)]
 pub struct Counts {
     pub run: u64,
     pub met: u64,
@@ -23,143 +24,98 @@ pub struct Counts {
     pub left: u64,
 }
 
-pub(crate) fn none() -> Counts {
-    Counts {
-        run: 0,
-        met: 0,
-        agree: 0,
-        unmet: 0,
-        differ: 0,
-        waits: 0,
-        left: 0,
+impl Add for Counts {
+    type Output = Counts;
+
+    fn add(self, other: Counts) -> Counts {
+        Counts {
+            run: self.run.wrapping_add(other.run),
+            met: self.met.wrapping_add(other.met),
+            agree: self.agree.wrapping_add(other.agree),
+            unmet: self.unmet.wrapping_add(other.unmet),
+            differ: self.differ.wrapping_add(other.differ),
+            waits: self.waits.wrapping_add(other.waits),
+            left: self.left.wrapping_add(other.left),
+        }
     }
 }
 
-pub(crate) fn sum(a: Counts, b: Counts) -> Counts {
-    Counts {
-        run: wrapping_add_u64(a.run, b.run),
-        met: wrapping_add_u64(a.met, b.met),
-        agree: wrapping_add_u64(a.agree, b.agree),
-        unmet: wrapping_add_u64(a.unmet, b.unmet),
-        differ: wrapping_add_u64(a.differ, b.differ),
-        waits: wrapping_add_u64(a.waits, b.waits),
-        left: wrapping_add_u64(a.left, b.left),
+impl fmt::Display for Counts {
+    fn fmt<W: fmt::Write>(&self, f: &mut fmt::Formatter<W>) -> fmt::Result {
+        let Counts {
+            run,
+            met,
+            agree,
+            unmet,
+            differ,
+            waits,
+            left,
+        } = *self;
+        write!(f, "schedules {run}; meet the premise {met}, agree {agree}")?;
+        write!(f, "; do not meet it {unmet}, differ {differ}")?;
+        write!(f, "; waits {waits}, left over {left}")
     }
 }
 
-// Does the word have each task's digit as often as the task has calls?
-fn is_schedule(ops: Ops, word: u64, length: usize) -> bool {
-    let mut left = ops.calls;
+// The calls of a task; none without an operation.
+fn calls(work: Option<Work>) -> u64 {
+    work.map_or(0, |work| work.calls)
+}
+
+fn stage(work: Option<Work>) -> Stage {
+    work.map_or(Stage::Over, |work| Stage::Ready(work.op))
+}
+
+// Does the word have each task's digit as often as the task has calls? Its digits, lowest first, are taken as `follow` takes them: a digit below 3 is an index by `%`, which an iterator's item is not.
+fn is_schedule(works: [Option<Work>; 3], word: u64, length: usize) -> bool {
+    let mut left = works.map(calls);
     let mut rest = word;
     for _ in 0..length {
         let task = (rest % 3) as usize;
-        let n = left[task];
-        if n == 0 {
+        if left[task] == 0 {
             return false;
         }
-        left[task] = n - 1;
+        left[task] -= 1;
         rest = rest / 3;
     }
     true
 }
 
-fn bytes() -> [u8; 12] {
-    [
-        0x1b, 0x64, 0xd2, 0x8f, 0x39, 0xe7, 0x50, 0xac, 0x05, 0xfa, 0x93, 0x7e,
-    ]
-}
-
-fn same(a: &[u8], b: &[u8]) -> bool {
-    if a.len() != b.len() {
-        return false;
-    }
-    for i in 0..a.len() {
-        if a[i] != b[i] {
-            return false;
-        }
-    }
-    true
-}
-
-fn one_if(b: bool) -> u64 {
-    if b { 1 } else { 0 }
-}
+const BYTES: [u8; 12] = [
+    0x1b, 0x64, 0xd2, 0x8f, 0x39, 0xe7, 0x50, 0xac, 0x05, 0xfa, 0x93, 0x7e,
+];
 
 // One schedule, run to its end, and its operations run whole.
-fn judge(ops: Ops, word: u64, length: usize) -> Counts {
-    let made = Table::new(12);
-    let table = made.table;
-    let mut together = bytes();
-    let mut apart = bytes();
-    let followed = follow(opening(table), ops, &mut together, word, length);
-    let run = run_out(followed, ops, &mut together, length);
-    let told = again(run, ops, &mut apart);
-    let agrees = if told { same(&together, &apart) } else { false };
-    let left = one_if(run.ended != started(ops));
-    if run.met {
-        return Counts {
-            run: 1,
-            met: 1,
-            agree: one_if(agrees),
-            unmet: 0,
-            differ: 0,
-            waits: run.waits,
-            left,
-        };
-    }
+fn judge(works: [Option<Work>; 3], word: u64, length: usize) -> Counts {
+    let mut together = BYTES;
+    let mut apart = BYTES;
+    let mut run = Run::new(works.map(stage));
+    run.follow(&mut together, word, length);
+    run.run_out(&mut together, length);
+    let agrees = run.again(&mut apart) && together == apart;
     Counts {
         run: 1,
-        met: 0,
-        agree: 0,
-        unmet: 1,
-        differ: one_if(!agrees),
+        met: u64::from(run.met),
+        agree: u64::from(run.met && agrees),
+        unmet: u64::from(!run.met),
+        differ: u64::from(!run.met && !agrees),
         waits: run.waits,
-        left,
+        left: u64::from(run.leaves()),
     }
 }
 
-// How many tasks have an operation.
-fn started(ops: Ops) -> usize {
-    let third = ops.calls[2];
-    if third == 0 { 2 } else { 3 }
-}
-
-fn judge_word(ops: Ops, word: u64, length: usize) -> Counts {
-    if is_schedule(ops, word, length) {
-        return judge(ops, word, length);
-    }
-    none()
-}
-
-fn calls(ops: Ops) -> usize {
-    let a = ops.calls[0];
-    let b = ops.calls[1];
-    let c = ops.calls[2];
-    wrapping_add_u64(a, wrapping_add_u64(b, c)) as usize
-}
-
-// How many words of so many digits there are.
-fn word_count(length: usize) -> u64
-    requires { length < 13 }
-    ensures { result < 1000000 }
-{
-    let n = WORDS[length];
-    if n < 1000000 {
-        return n;
-    }
-    0
-}
-
-// All schedules of these operations.
-pub(crate) fn all(ops: Ops) -> Counts {
-    let length = calls(ops);
-    let mut counts = none();
+// All schedules of these operations, if they have at most 12 calls.
+pub(crate) fn all(works: [Option<Work>; 3]) -> Counts {
+    let [a, b, c] = works.map(calls);
+    let length = a.wrapping_add(b).wrapping_add(c);
+    let mut counts = Counts::default();
     if 12 < length {
         return counts;
     }
-    let words = word_count(length);
-    for word in 0..words {
-        counts = sum(counts, judge_word(ops, word, length));
+    for word in 0..3_u64.wrapping_pow(length as u32) {
+        if is_schedule(works, word, length as usize) {
+            counts = counts + judge(works, word, length as usize);
+        }
     }
     counts
 }

@@ -6,8 +6,6 @@ use mathlib.Core.List.{List, [], ◌∷◌, ◌++◌}
 use Prim.Native.Nat.{ℕ, ◌+◌, ◌-◌, ◌*◌, ◌≤◌}
 use native.Mathlib.Nat.{le_refl}
 use native.Mathlib.Omega.{arith}
-use denote.Enum.Declared.{tag_of}
-use types.Run.{OneOf, miss}
 use lib.Dec.{eqb}
 use lib.ListN.{length, take, drop, length-append, length-take, length-drop}
 use lib.Seq.{take-append_seam}
@@ -16,27 +14,21 @@ use Rattle.bits.proofs.Laws.{lt_cases, bytes_length}
 use Rattle.types.specs.Refusals.{first_of, judged}
 use Rattle.types.specs.declared.refusal.Refusal.{Refusal}
 use Rattle.types.specs.declared.refusal.Refusal.TheVariants as R
-use Rattle.types.specs.declared.refusal.Outcome.{Outcome}
-use Rattle.types.specs.declared.refusal.Outcome.TheVariants as O
+use Rattle.expression.specs.declared.concat.ConcatValue.TheVariants as Cv
+use Rattle.expression.specs.declared.concat.ConcatValue.{ConcatValue}
+use Rattle.std.specs.Prelude.{⊤, Result, Ok, Err}
 use Rattle.types.specs.declared.value.AmlValue.{AmlValue}
 use Rattle.types.specs.declared.value.AmlValue.TheVariants as Val
 use Rattle.buffer_field.specs.BufferFields.{too_long}
-use Rattle.types.specs.contracts.value.AmlValue.{the_type}
 use Rattle.script.specs.Ops.{buffer_letter, letter_of}
 use Rattle.field_unit.specs.Calls.{read_field}
 use Rattle.value.specs.Conversions.{held_by, to_integer, to_buffer, Bytes, these, none, Given, given, giving, into, truth_number}
-use Rattle.value.specs.declared.convert.IntegerAnswer.{IntegerAnswer}
-use Rattle.value.specs.declared.convert.IntegerAnswer.TheVariants as IA
-use Rattle.value.specs.declared.convert.LengthAnswer.{LengthAnswer}
-use Rattle.value.specs.declared.convert.LengthAnswer.TheVariants as LA
 use Rattle.value.proofs.Fields.{content_outside, content_number, content_bytes, unit_no_buffer}
 use Rattle.value.proofs.Giving.{giving_short, giving_these, giving_none}
 use Rattle.expression.specs.Numbers.{and_then}
 use Rattle.expression.specs.Mid.{source, mid, mid_outcome, mid_part}
 use Rattle.types.specs.declared.value.AmlType.TheVariants as T
 use Rattle.expression.specs.Concat.{name_of, Joined, a_buffer, a_string, refused, number_bytes, join_buffers, join_texts, joined, text_of, text_bytes, Concatenated, concatenated, delivered, concat, body, ended, join_resources, concat_res}
-use Rattle.expression.specs.declared.concat.ConcatAnswer.{ConcatAnswer}
-use Rattle.expression.specs.declared.concat.ConcatAnswer.TheVariants as C
 use Rattle.expression.proofs.Lent.{both_short}
 
 -- two answers that differ
@@ -95,9 +87,9 @@ module _ (k : ℕ) (h : 18 ≤ k) where
   text_most Val.ThermalZone t l = omega arith
 
 module _ (k m : ℕ) (h : 18 ≤ k) (g : 18 ≤ m) where
-  numbers_most : (x : ℕ) (i : IntegerAnswer) → length (joined_bytes (and_then i (λ y. a_buffer (number_bytes x ++ number_bytes y)) refused)) ≤ k + m
-  numbers_most x (IA.Integer y) = omega (arith, length-append (number_bytes x) (number_bytes y), bytes_length (bit_of x) 0 8, bytes_length (bit_of y) 0 8)
-  numbers_most x (IA.Refused r) = omega arith
+  numbers_most : (x : ℕ) (i : Result ℕ Refusal) → length (joined_bytes (and_then i (λ y. a_buffer (number_bytes x ++ number_bytes y)) refused)) ≤ k + m
+  numbers_most x (Ok y) = omega (arith, length-append (number_bytes x) (number_bytes y), bytes_length (bit_of x) 0 8, bytes_length (bit_of y) 0 8)
+  numbers_most x (Err r) = omega arith
 
   buffers_most : (l : List ℕ) (b : Bytes) → length l ≤ k → length (text_bytes b) ≤ m → length (joined_bytes (join_buffers l b)) ≤ k + m
   buffers_most l (these r) p q = omega (arith, length-append l r)
@@ -151,22 +143,22 @@ module _ (room after : List ℕ) where
   front : (l : List ℕ) (n : ℕ) → n ≡ length l → after ≡ into l room → l ≡ take n after
   front l n e f = rw (e, f) (sym (take-append_seam l (drop (length l) room)))
 
-  given_bytes : (b : Bytes) (n : ℕ) → given (LA.Length n) after ≡ giving b room → (b ≡ these (take n after)) × (n ≤ length room) × (n ≤ length after)
+  given_bytes : (b : Bytes) (n : ℕ) → given (Ok n) after ≡ giving b room → (b ≡ these (take n after)) × (n ≤ length room) × (n ≤ length after)
   given_bytes (none r) n e = no (cc (ap (λ (g : Given). g.answer) e, giving_none r room))
   given_bytes (these l) n e =
       lt_cases (length room) (length l) _
       (λ h. no (cc (ap (λ (g : Given). g.answer) (e ∙ giving_short l room h))))
       (λ h.
-      let a : LA.Length n ≡ LA.Length (length l) = ap (λ (g : Given). g.answer) (e ∙ giving_these l room h) in
+      let a : Ok n ≡ Ok (length l) = ap (λ (g : Given). g.answer) (e ∙ giving_these l room h) in
       let n≡ : n ≡ length l = cc in
       let f : l ≡ take n after = front l n n≡ (ap (λ (g : Given). g.out) (e ∙ giving_these l room h)) in
       (ap these f, omega arith, omega (arith, ap length f, length-take n after)))
 
-  given_none : (b : Bytes) (q : Refusal) → length (text_bytes b) ≤ length room → given (LA.Refused q) after ≡ giving b room → b ≡ none q
-  given_none (none r) q m e = let a : LA.Refused q ≡ LA.Refused r = ap (λ (g : Given). g.answer) (e ∙ giving_none r room) in cc
+  given_none : (b : Bytes) (q : Refusal) → length (text_bytes b) ≤ length room → given (Err q) after ≡ giving b room → b ≡ none q
+  given_none (none r) q m e = let a : Err q ≡ Err r = ap (λ (g : Given). g.answer) (e ∙ giving_none r room) in cc
   given_none (these l) q m e = no (cc (ap (λ (g : Given). g.answer) (e ∙ giving_these l room m)))
 
-  delivered_buffer : (j : Joined) (n : ℕ) → concatenated (C.Buffer n) after ≡ delivered j room → (j ≡ a_buffer (take n after)) × (n ≤ length room) × (n ≤ length after)
+  delivered_buffer : (j : Joined) (n : ℕ) → concatenated (Ok (Cv.Buffer n)) after ≡ delivered j room → (j ≡ a_buffer (take n after)) × (n ≤ length room) × (n ≤ length after)
   delivered_buffer (refused r) n e = no (cc (ap (λ (g : Concatenated). g.answer) e))
   delivered_buffer (a_string l) n e =
       lt_cases (length room) (length l) _
@@ -176,13 +168,13 @@ module _ (room after : List ℕ) where
       lt_cases (length room) (length l) _
       (λ h. no (cc (ap (λ (g : Concatenated). g.answer) (rw (giving_short l room h) at e))))
       (λ h.
-      let d : concatenated (C.Buffer n) after ≡ concatenated (C.Buffer (length l)) (into l room) = rw (giving_these l room h) at e in
-      let a : C.Buffer n ≡ C.Buffer (length l) = ap (λ (g : Concatenated). g.answer) d in
+      let d : concatenated (Ok (Cv.Buffer n)) after ≡ concatenated (Ok (Cv.Buffer (length l))) (into l room) = rw (giving_these l room h) at e in
+      let a : Ok (Cv.Buffer n) ≡ Ok (Cv.Buffer (length l)) = ap (λ (g : Concatenated). g.answer) d in
       let n≡ : n ≡ length l = cc in
       let f : l ≡ take n after = front l n n≡ (ap (λ (g : Concatenated). g.out) d) in
       (ap a_buffer f, omega arith, omega (arith, ap length f, length-take n after)))
 
-  delivered_string : (j : Joined) (n : ℕ) → concatenated (C.String n) after ≡ delivered j room → (j ≡ a_string (take n after)) × (n ≤ length room) × (n ≤ length after)
+  delivered_string : (j : Joined) (n : ℕ) → concatenated (Ok (Cv.String n)) after ≡ delivered j room → (j ≡ a_string (take n after)) × (n ≤ length room) × (n ≤ length after)
   delivered_string (refused r) n e = no (cc (ap (λ (g : Concatenated). g.answer) e))
   delivered_string (a_buffer l) n e =
       lt_cases (length room) (length l) _
@@ -192,43 +184,43 @@ module _ (room after : List ℕ) where
       lt_cases (length room) (length l) _
       (λ h. no (cc (ap (λ (g : Concatenated). g.answer) (rw (giving_short l room h) at e))))
       (λ h.
-      let d : concatenated (C.String n) after ≡ concatenated (C.String (length l)) (into l room) = rw (giving_these l room h) at e in
-      let a : C.String n ≡ C.String (length l) = ap (λ (g : Concatenated). g.answer) d in
+      let d : concatenated (Ok (Cv.String n)) after ≡ concatenated (Ok (Cv.String (length l))) (into l room) = rw (giving_these l room h) at e in
+      let a : Ok (Cv.String n) ≡ Ok (Cv.String (length l)) = ap (λ (g : Concatenated). g.answer) d in
       let n≡ : n ≡ length l = cc in
       let f : l ≡ take n after = front l n n≡ (ap (λ (g : Concatenated). g.out) d) in
       (ap a_string f, omega arith, omega (arith, ap length f, length-take n after)))
 
-  delivered_none : (j : Joined) (q : Refusal) → length (joined_bytes j) ≤ length room → concatenated (C.Refused q) after ≡ delivered j room → j ≡ refused q
-  delivered_none (refused r) q m e = let a : C.Refused q ≡ C.Refused r = ap (λ (g : Concatenated). g.answer) e in cc
+  delivered_none : (j : Joined) (q : Refusal) → length (joined_bytes j) ≤ length room → concatenated (Err q) after ≡ delivered j room → j ≡ refused q
+  delivered_none (refused r) q m e = let a : Err q ≡ Err r = ap (λ (g : Concatenated). g.answer) e in cc
   delivered_none (a_buffer l) q m e = no (cc (ap (λ (g : Concatenated). g.answer) (rw (giving_these l room m) at e)))
   delivered_none (a_string l) q m e = no (cc (ap (λ (g : Concatenated). g.answer) (rw (giving_these l room m) at e)))
 
 -- ---- the operators, in a room of 512 bytes
 module _ (a : AmlValue) (s : List ℕ) (b : AmlValue) (t : List ℕ) (h : length s ≤ 256) (k : length t ≤ 256) (room after : List ℕ) (m : length room ≡ 512) where
-  module _ (r : ConcatAnswer) (e : concatenated r after ≡ concat a s b t room) where
-    gave : (x : ConcatAnswer) → r ≡ x → concatenated x after ≡ delivered (joined (held_by a s) (held_by b t)) room
+  module _ (r : Result ConcatValue Refusal) (e : concatenated r after ≡ concat a s b t room) where
+    gave : (x : Result ConcatValue Refusal) → r ≡ x → concatenated x after ≡ delivered (joined (held_by a s) (held_by b t)) room
     unfolding concat
-    gave x d = ap (λ (y : ConcatAnswer). concatenated y after) (sym d) ∙ e ∙ both_short s t _ (λ q. concatenated (C.Refused q) room) (omega arith) (omega arith)
+    gave x d = ap (λ (y : Result ConcatValue Refusal). concatenated y after) (sym d) ∙ e ∙ both_short s t _ (λ q. concatenated (Err q) room) (omega arith) (omega arith)
 
-    pub concat_buffer : (n : ℕ) → r ≡ C.Buffer n → (joined (held_by a s) (held_by b t) ≡ a_buffer (take n after)) × (n ≤ 512) × (n ≤ length after)
-    concat_buffer n d = rw m at (delivered_buffer room after (joined (held_by a s) (held_by b t)) n (gave (C.Buffer n) d))
+    pub concat_buffer : (n : ℕ) → r ≡ Ok (Cv.Buffer n) → (joined (held_by a s) (held_by b t) ≡ a_buffer (take n after)) × (n ≤ 512) × (n ≤ length after)
+    concat_buffer n d = rw m at (delivered_buffer room after (joined (held_by a s) (held_by b t)) n (gave (Ok (Cv.Buffer n)) d))
 
-    pub concat_string : (n : ℕ) → r ≡ C.String n → (joined (held_by a s) (held_by b t) ≡ a_string (take n after)) × (n ≤ 512) × (n ≤ length after)
-    concat_string n d = rw m at (delivered_string room after (joined (held_by a s) (held_by b t)) n (gave (C.String n) d))
+    pub concat_string : (n : ℕ) → r ≡ Ok (Cv.String n) → (joined (held_by a s) (held_by b t) ≡ a_string (take n after)) × (n ≤ 512) × (n ≤ length after)
+    concat_string n d = rw m at (delivered_string room after (joined (held_by a s) (held_by b t)) n (gave (Ok (Cv.String n)) d))
 
-    pub concat_refused : (q : Refusal) → r ≡ C.Refused q → joined (held_by a s) (held_by b t) ≡ refused q
-    concat_refused q d = delivered_none room after _ q (rw m (joined_most 256 256 (omega arith) (omega arith) a s b t h k)) (gave (C.Refused q) d)
+    pub concat_refused : (q : Refusal) → r ≡ Err q → joined (held_by a s) (held_by b t) ≡ refused q
+    concat_refused q d = delivered_none room after _ q (rw m (joined_most 256 256 (omega arith) (omega arith) a s b t h k)) (gave (Err q) d)
 
-  module _ (r : LengthAnswer) (e : given r after ≡ concat_res a s b t room) where
-    resources_gave : (x : LengthAnswer) → r ≡ x → given x after ≡ giving (join_resources (to_buffer (held_by a s)) (to_buffer (held_by b t))) room
+  module _ (r : Result ℕ Refusal) (e : given r after ≡ concat_res a s b t room) where
+    resources_gave : (x : Result ℕ Refusal) → r ≡ x → given x after ≡ giving (join_resources (to_buffer (held_by a s)) (to_buffer (held_by b t))) room
     unfolding concat_res
-    resources_gave x d = ap (λ (y : LengthAnswer). given y after) (sym d) ∙ e ∙ both_short s t _ (λ q. given (LA.Refused q) room) (omega arith) (omega arith)
+    resources_gave x d = ap (λ (y : Result ℕ Refusal). given y after) (sym d) ∙ e ∙ both_short s t _ (λ q. given (Err q) room) (omega arith) (omega arith)
 
-    pub resources_bytes : (n : ℕ) → r ≡ LA.Length n → (join_resources (to_buffer (held_by a s)) (to_buffer (held_by b t)) ≡ these (take n after)) × (n ≤ 512) × (n ≤ length after)
-    resources_bytes n d = rw m at (given_bytes room after (join_resources (to_buffer (held_by a s)) (to_buffer (held_by b t))) n (resources_gave (LA.Length n) d))
+    pub resources_bytes : (n : ℕ) → r ≡ Ok n → (join_resources (to_buffer (held_by a s)) (to_buffer (held_by b t)) ≡ these (take n after)) × (n ≤ 512) × (n ≤ length after)
+    resources_bytes n d = rw m at (given_bytes room after (join_resources (to_buffer (held_by a s)) (to_buffer (held_by b t))) n (resources_gave (Ok n) d))
 
-    pub resources_refused : (q : Refusal) → r ≡ LA.Refused q → join_resources (to_buffer (held_by a s)) (to_buffer (held_by b t)) ≡ none q
-    resources_refused q d = given_none room after _ q (rw m (ended_most 256 256 (omega arith) (omega arith) a s b t h k)) (resources_gave (LA.Refused q) d)
+    pub resources_refused : (q : Refusal) → r ≡ Err q → join_resources (to_buffer (held_by a s)) (to_buffer (held_by b t)) ≡ none q
+    resources_refused q d = given_none room after _ q (rw m (ended_most 256 256 (omega arith) (omega arith) a s b t h k)) (resources_gave (Err q) d)
 
 -- ---- Mid, in two calls: a part is no longer than its source
 source_most : (v : AmlValue) (s : List ℕ) (i n : ℕ) → length (mid_part (source (held_by v s) i n)) ≤ length s
@@ -247,39 +239,36 @@ source_most Val.Package s i n = omega arith
 source_most Val.PowerResource s i n = omega arith
 source_most Val.ThermalZone s i n = omega arith
 
-part_most : (v : AmlValue) (s : List ℕ) (c : Bool) (x y : IntegerAnswer)
+part_most : (v : AmlValue) (s : List ℕ) (c : Bool) (x y : Result ℕ Refusal)
     → length (mid_part (judged (first_of ((c, R.TooManyBytes) ∷ [])) (and_then x (λ i. and_then y (λ n. source (held_by v s) i n) none) none) none)) ≤ length s
 unfolding first_of
 part_most v s true x y = omega arith
-part_most v s false (IA.Refused r) y = omega arith
-part_most v s false (IA.Integer i) (IA.Refused r) = omega arith
-part_most v s false (IA.Integer i) (IA.Integer n) = source_most v s i n
+part_most v s false (Err r) y = omega arith
+part_most v s false (Ok i) (Err r) = omega arith
+part_most v s false (Ok i) (Ok n) = source_most v s i n
 
 pub mid_most : (v : AmlValue) (s : List ℕ) (i : AmlValue) (is : List ℕ) (n : AmlValue) (ns : List ℕ) → length (mid_part (mid v s i is n ns)) ≤ length s
 unfolding mid
 mid_most v s i is n ns = part_most v s (too_long s || (too_long is || too_long ns)) (to_integer (held_by i is)) (to_integer (held_by n ns))
 
-module _ (p : Bytes) (o : Outcome) (e : o ≡ mid_outcome p) where
-  pub mid_refused : (q : Refusal) → o ≡ O.Refused q → p ≡ none q
+module _ (p : Bytes) (o : Result ⊤ Refusal) (e : o ≡ mid_outcome p) where
+  pub mid_refused : (q : Refusal) → o ≡ Err q → p ≡ none q
   mid_refused q d = of p (sym d ∙ e)
     where
-      of : (x : Bytes) → O.Refused q ≡ mid_outcome x → x ≡ none q
+      of : (x : Bytes) → Err q ≡ mid_outcome x → x ≡ none q
       of (these l) f = cc
       of (none r) f = cc
 
-  pub mid_part_lem : o ≡ O.Done → (l : List ℕ) → l ≡ mid_part p → p ≡ these l
+  pub mid_part_lem : o ≡ Ok tt → (l : List ℕ) → l ≡ mid_part p → p ≡ these l
   mid_part_lem d l g = of p (sym d ∙ e) g
     where
-      of : (x : Bytes) → O.Done ≡ mid_outcome x → l ≡ mid_part x → x ≡ these l
+      of : (x : Bytes) → Ok tt ≡ mid_outcome x → l ≡ mid_part x → x ≡ these l
       of (these k) f i = ap these (sym i)
       of (none r) f i = cc
 
--- all but String, 2
-abbrev pub not_string : List ℕ
-not_string = 0 ∷ 1 ∷ 3 ∷ 4 ∷ 5 ∷ 6 ∷ 7 ∷ 8 ∷ 9 ∷ 10 ∷ 11 ∷ 12 ∷ 13 ∷ []
-
-pub other_letter : (v : AmlValue) → OneOf not_string (tag_of the_type v) → letter_of v ≡ buffer_letter
-other_letter Val.String k = absurd (miss not_string 2 tt k)
+-- all but String
+pub other_letter : (v : AmlValue) → (v ≡ Val.String → ⊥) → letter_of v ≡ buffer_letter
+other_letter Val.String k = absurd (k refl)
 other_letter Val.Buffer k = refl
 other_letter (Val.BufferField o n) k = refl
 other_letter (Val.Field f) k = refl

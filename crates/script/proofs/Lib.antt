@@ -5,4 +5,5 @@ pub mod Puts
 pub mod Reading
 pub mod Running
 pub mod Sizes
+pub mod Table
 pub mod Whole

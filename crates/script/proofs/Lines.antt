@@ -13,8 +13,7 @@ use Rattle.text.specs.Lines.{Line, line, missing, line_of, length_of, begins}
 use Rattle.text.proofs.FirstLines.{line_is, line_inside, line_missing, line_length, begins_length}
 use Rattle.script.specs.Runs.{Named, named, no, named_line, next}
 use Rattle.script.specs.Steps.{line_as, Inside}
-use Rattle.text.specs.declared.lines.LineAnswer.{LineAnswer}
-use Rattle.text.specs.declared.lines.LineAnswer.TheVariants as L
+use Rattle.std.specs.Prelude.{Option, Some, None}
 
 -- a part of a text from a place on is what is behind the place
 pub rest_of_lem : (s : List ℕ) (n : ℕ) → take (length s - n) (drop n s) ≡ drop n s
@@ -26,15 +25,15 @@ behind s m n h k =
     let e : m + (n - m) ≡ n = omega arith in
     sym (drop_at (take m s) (take (n - m) (drop m s)) m (length-take-le m s k)) ∙ ap (drop m) (sym (take-add m (n - m) s) ∙ ap (λ (i : ℕ). take i s) e)
 
-module _ (s name : List ℕ) (r : LineAnswer) (e : r ≡ length_of (line_of s)) where
-  pub no_line : r ≡ L.Missing → (line_as L.Missing (length name) s ≡ next name s) × Inside L.Missing (length name) (length s)
+module _ (s name : List ℕ) (r : Option ℕ) (e : r ≡ length_of (line_of s)) where
+  pub no_line : r ≡ None → (line_as None (length name) s ≡ next name s) × Inside None (length name) (length s)
   no_line d = (rw (line_missing s r e d), omega arith)
 
-  module _ (n : ℕ) (d : r ≡ L.Is n) (b : Bool) (f : b ≡ begins name (take n s)) where
-    pub misnamed : not b ≡ true → (line_as L.Missing (length name) s ≡ next name s) × Inside L.Missing (length name) (length s)
+  module _ (n : ℕ) (d : r ≡ Some n) (b : Bool) (f : b ≡ begins name (take n s)) where
+    pub misnamed : not b ≡ true → (line_as None (length name) s ≡ next name s) × Inside None (length name) (length s)
     misnamed g = (rw (line_is s r e n d, ← f, not-true b g), omega arith)
 
-    pub well_named : not b ≡ false → (line_as (L.Is n) (length name) s ≡ next name s) × Inside (L.Is n) (length name) (length s)
+    pub well_named : not b ≡ false → (line_as (Some n) (length name) s ≡ next name s) × Inside (Some n) (length name) (length s)
     well_named g =
         let i = line_inside s r e n d in
         let t : begins name (take n s) ≡ true = sym f ∙ not-false b g in

@@ -12,7 +12,7 @@ use lib.Seq.{drop-drop}
 use Rattle.types.specs.declared.refusal.Refusal.TheVariants as R
 use Rattle.types.specs.declared.value.AmlValue.{AmlValue}
 use Rattle.value.specs.Conversions.{given, into}
-use Rattle.value.specs.declared.convert.LengthAnswer.TheVariants as LA
+use Rattle.std.specs.Prelude.{Ok, Err, Option, Some, None}
 use Rattle.value.proofs.Giving.{giving_short, giving_these}
 use Rattle.text.specs.Written.{over}
 use Rattle.text.proofs.Over.{over_append, over_none, over_past, over_front}
@@ -20,9 +20,8 @@ use Rattle.script.specs.Operands.{Operand, operand, unused, bad, operand_of}
 use Rattle.script.specs.Ops.{ops, row_of}
 use Rattle.script.specs.Runs.{Named, named, no, next, op_name, a_name, b_name, c_name, Read, value, wrong, fill, fill_named, operand_line, malformed, with_c, with_b, with_a, with_op, by_name, op_line, job_of, answers_to, output, script}
 use Rattle.script.specs.Steps.{Put, Stepped}
+use Rattle.script.specs.declared.written.Answers.{Answers}
 use Rattle.script.specs.declared.op.Op.{Op}
-use Rattle.script.specs.declared.op.OpAnswer.{OpAnswer}
-use Rattle.script.specs.declared.op.OpAnswer.TheVariants as OpA
 use Rattle.script.proofs.Lines.{rest_of_lem, rest_of, shorter_next}
 
 -- ---- what is left after a job is shorter
@@ -63,9 +62,9 @@ shorter_op : (op : Op) (n : ℕ) (s : List ℕ) → length (with_op op n s).rest
 unfolding with_op
 shorter_op op n s = omega (arith, shorter_a op n (operand_line a_name (ltb 0 n) s), shorter_operand a_name (ltb 0 n) s)
 
-shorter_name : (x : OpAnswer) (rest : List ℕ) → length (by_name x rest).rest ≤ length rest
-shorter_name (OpA.Is op n) rest = shorter_op op n rest
-shorter_name OpA.Unknown rest = omega arith
+shorter_name : (x : Option (Op × ℕ)) (rest : List ℕ) → length (by_name x rest).rest ≤ length rest
+shorter_name (Some p) rest = shorter_op p.0 p.1 rest
+shorter_name None rest = omega arith
 
 shorter_line : (x : Named) → length (op_line x).rest ≤ length (rest_of x)
 shorter_line (named l rest) = shorter_name (row_of ops l) rest
@@ -118,30 +117,33 @@ Left input out₀ out from at =
 pub left_begin : (input out : List ℕ) → Left input out out 0 0
 left_begin input out = (refl, omega arith)
 
-module _ (input out₀ out : List ℕ) (from at : ℕ) (l : Left input out₀ out from at) where
-  pub left_step : from < length input → (after : List ℕ) (used next : ℕ)
-      → Stepped (take (length input - from) (drop from input)) out at (job_of (take (length input - from) (drop from input))) after used next
-      → Left input out₀ after (from + used) next
-  left_step h after used next w =
-      let v : Stepped (drop from input) out at (job_of (drop from input)) after used next = rw (rest_of_lem input from) at w in
+module _ (input out₀ : List ℕ) (old : Answers) (from : ℕ) (l : Left input out₀ old.out.now from old.at) where
+  pub left_step : from < length input → (new : Answers) (used : ℕ)
+      → Stepped (take (length input - from) (drop from input)) old (job_of (take (length input - from) (drop from input))) new used
+      → Left input out₀ new.out.now (from + used) new.at
+  left_step h new used w =
+      let v : Stepped (drop from input) old (job_of (drop from input)) new used = rw (rest_of_lem input from) at w in
       let t = (job_of (drop from input)).text in
       let r : (job_of (drop from input)).rest ≡ drop (from + used) input = sym v.rest ∙ drop-drop used from input in
       let m : answers (drop from input) ≡ t ++ answers (drop (from + used) input)
       = answers_more (drop from input) (omega (arith, length-drop from input)) ∙ ap (λ (x : List ℕ). t ++ answers x) r in
-      let p = v.put.place in (
-        rw (v.put.bytes, p) (sym (over_append out at t (answers (drop (from + used) input))) ∙ ap (over out at) (sym m) ∙ l.0),
+      let p = v.puts.put.place in (
+        rw (v.puts.put.bytes, p) (sym (over_append old.out.now old.at t (answers (drop (from + used) input))) ∙ ap (over old.out.now old.at) (sym m) ∙ l.0),
         omega (arith, p, l.1, ap length m, length-append t (answers (drop (from + used) input))),
       )
 
-  pub left_end : length input ≤ from → Put out₀ 0 (answers input) out at
+  pub left_end : length input ≤ from → Put out₀ 0 (answers input) old.out.now old.at
   left_end h =
       let n : answers (drop from input) ≡ [] = ap answers (drop_of_length-le input h) ∙ none_left 0 in
       record {
-        bytes = sym (over_none out at) ∙ ap (over out at) (sym n) ∙ l.0;
+        bytes = sym (over_none old.out.now old.at) ∙ ap (over old.out.now old.at) (sym n) ∙ l.0;
         place = omega (arith, l.1, ap length n);
       }
 
 -- ---- the whole
+pub written_as : (out : List ℕ) (at : ℕ) (text o after : List ℕ) (next : ℕ) → Put out at text o next → after ≡ o → Put out at text after next
+written_as out at text o after next p e = rw e p
+
 pub output_long : (s : List ℕ) → 65536 < length s → output s ≡ malformed.text
 unfolding output
 output_long s h = rw (lt-ltb 65536 (length s) h)
@@ -158,13 +160,13 @@ module _ (s out after₀ : List ℕ) (n : ℕ) (p : Put [] 0 (output s) after₀
   kept : after₀ ++ out ≡ out
   kept = ap (λ (x : List ℕ). x ++ out) (p.bytes ∙ over_past [] 0 (output s) (omega arith))
 
-  pub script_short : length (after₀ ++ out) < n → given (LA.Refused R.OutputTooShort) (after₀ ++ out) ≡ script s out
+  pub script_short : length (after₀ ++ out) < n → given (Err R.OutputTooShort) (after₀ ++ out) ≡ script s out
   unfolding script
   script_short h =
       let l : length (after₀ ++ out) ≡ length out = ap length kept in
       rw kept (sym (giving_short (output s) out (omega (arith, counted, l))))
 
-  pub script_done : n ≤ length (after₀ ++ out) → (after : List ℕ) (m : ℕ) → Put (after₀ ++ out) 0 (output s) after m → given (LA.Length n) after ≡ script s out
+  pub script_done : n ≤ length (after₀ ++ out) → (after : List ℕ) (m : ℕ) → Put (after₀ ++ out) 0 (output s) after m → given (Ok n) after ≡ script s out
   unfolding script
   script_done h after m q =
       let l : length (after₀ ++ out) ≡ length out = ap length kept in

@@ -17,20 +17,17 @@ use Rattle.text.specs.Lines.{Line, line, missing, line_of, begins}
 use Rattle.text.specs.Pairs.{Pairs, pairs, none, pairs_of, within}
 use Rattle.text.specs.Texts.{number_of}
 use Rattle.text.specs.Written.{decimal_text, hex_text}
-use Rattle.text.specs.declared.Number.{Number}
-use Rattle.text.specs.declared.Number.TheVariants as N
+use Rattle.std.specs.declared.cmp.Ordering.TheVariants as Or
+use Rattle.std.specs.declared.cmp.Ordering.{Ordering}
+use Rattle.std.specs.Prelude.{Result, Ok, Err, Option, Some, None}
+use Rattle.types.specs.declared.refusal.Refusal.{Refusal}
 use Rattle.text.proofs.Decimals.{decimal_most}
 use Rattle.text.proofs.FirstLines.{line_length, begins_length}
 use Rattle.text.proofs.HexPairs.{pairs_length}
 use Rattle.text.proofs.Hexes.{hex_length}
 use Rattle.value.specs.Conversions as Conv
-use Rattle.value.specs.declared.convert.IntegerAnswer.{IntegerAnswer}
-use Rattle.value.specs.declared.convert.IntegerAnswer.TheVariants as IA
-use Rattle.value.specs.declared.convert.LengthAnswer.TheVariants as LA
 use Rattle.value.proofs.Giving.{giving_these}
 use Rattle.expression.specs.Compare.{compare}
-use Rattle.expression.specs.declared.compare.CompareAnswer.{CompareAnswer}
-use Rattle.expression.specs.declared.compare.CompareAnswer.TheVariants as C
 use Rattle.expression.specs.Mid.{mid, mid_part}
 use Rattle.expression.specs.Concat.{Joined, a_buffer, a_string, refused, joined, join_resources}
 use Rattle.script.specs.Operands.{Operand, operand, unused, bad, number_operand, bytes_operand, most, alone, operand_of}
@@ -38,8 +35,6 @@ use Rattle.script.specs.Ops.{Shown, refused_by, of_integer, of_compare, of_bytes
 use Rattle.script.specs.Runs.{Named, named, no, named_line, next, op_name, a_name, b_name, c_name, Read, value, wrong, fill, fill_named, operand_line, status_text, value_text, status_line, answer_lines, Told, malformed, with_c, with_b, with_a, with_op, by_name, op_line, job_of, answers_to, output, script}
 use Rattle.script.specs.declared.op.Op.{Op}
 use Rattle.script.specs.declared.op.Op.TheVariants as O
-use Rattle.script.specs.declared.op.OpAnswer.{OpAnswer}
-use Rattle.script.specs.declared.op.OpAnswer.TheVariants as OA
 use Rattle.script.proofs.Joining.{joined_bytes, joined_most, ended_most, mid_most}
 use Rattle.script.proofs.Running.{none_left, output_long, output_short}
 
@@ -67,9 +62,9 @@ unfolding within
 pairs_size v l (pairs b) e = omega (arith, within_size v b (leb (length b) most), pairs_length l b e)
 pairs_size v l none e = omega arith
 
-number_size : (m : Number) (n : ℕ) → 2 * operand_bytes (number_operand m) ≤ n
-number_size (N.Is x) n = omega arith
-number_size N.Bad n = omega arith
+number_size : (m : Option ℕ) (n : ℕ) → 2 * operand_bytes (number_operand m) ≤ n
+number_size (Some x) n = omega arith
+number_size None n = omega arith
 
 operand_size : (t : List ℕ) → 2 * operand_bytes (operand_of t) ≤ length t
 unfolding operand_of
@@ -133,15 +128,15 @@ lines_size a =
     omega
     (arith, decimal_most a.status, length-append (status_text ++ (d ++ value_text)) (a.text ++ (10 ∷ [])), length-append status_text (d ++ value_text), length-append d value_text, length-append a.text (10 ∷ []))
 
-integer_size : (x : IntegerAnswer) → length (of_integer x).text ≤ 20
-integer_size (IA.Integer n) = decimal_most n
-integer_size (IA.Refused r) = omega arith
+integer_size : (x : Result ℕ Refusal) → length (of_integer x).text ≤ 20
+integer_size (Ok n) = decimal_most n
+integer_size (Err r) = omega arith
 
-order_size : (x : CompareAnswer) → length (of_compare x).text ≤ 1
-order_size C.Less = omega arith
-order_size C.Equal = omega arith
-order_size C.Greater = omega arith
-order_size (C.Refused r) = omega arith
+order_size : (x : Result Ordering Refusal) → length (of_compare x).text ≤ 1
+order_size (Ok Or.Less) = omega arith
+order_size (Ok Or.Equal) = omega arith
+order_size (Ok Or.Greater) = omega arith
+order_size (Err r) = omega arith
 
 bytes_size : (letter : List ℕ) (x : Conv.Bytes) → length letter ≤ 1 → length (of_bytes letter x).text ≤ 1 + 2 * length (mid_part x)
 bytes_size letter (Conv.these l) h = omega (arith, length-append letter (hex_text l), hex_length l)
@@ -204,9 +199,9 @@ with_op_lem : (op : Op) (k n : ℕ) (s : List ℕ) → 4 + length s ≤ n → Si
 unfolding with_op
 with_op_lem op k n s h = with_a_lem op k n (operand_line a_name (ltb 0 k) s) (omega (arith, operand_line_size a_name (ltb 0 k) s refl))
 
-by_name_lem : (x : OpAnswer) (rest : List ℕ) (n : ℕ) → 4 + length rest ≤ n → Sized (by_name x rest) n
-by_name_lem (OA.Is op k) rest n h = with_op_lem op k n rest h
-by_name_lem OA.Unknown rest n h = malformed_size n
+by_name_lem : (x : Option (Op × ℕ)) (rest : List ℕ) (n : ℕ) → 4 + length rest ≤ n → Sized (by_name x rest) n
+by_name_lem (Some p) rest n h = with_op_lem p.0 p.1 n rest h
+by_name_lem None rest n h = malformed_size n
 
 op_line_lem : (x : Named) (n : ℕ) → pieces 4 x ≤ n → Sized (op_line x) n
 op_line_lem (named l rest) n h = by_name_lem (row_of ops l) rest n (omega arith)
@@ -242,6 +237,6 @@ output_most s =
     (λ h. rw (output_short s h) (let m = answers_size (length s) s in omega arith))
 
 -- 20 is never given to whoever lends as much
-pub never_short : (s out : List ℕ) → 589860 ≤ length out → script s out ≡ Conv.given (LA.Length (length (output s))) (Conv.into (output s) out)
+pub never_short : (s out : List ℕ) → 589860 ≤ length out → script s out ≡ Conv.given (Ok (length (output s))) (Conv.into (output s) out)
 unfolding script
 never_short s out h = let m = output_most s in giving_these (output s) out (omega arith)

@@ -5,8 +5,7 @@ use Rattle.std.specs.Prelude.{ℕ, true, false, cond, List, [], ◌∷◌, eqb}
 use Rattle.types.specs.declared.value.AmlValue.{AmlValue}
 use Rattle.types.specs.declared.value.AmlValue.TheVariants as Val
 use Rattle.text.specs.Texts.{number_of}
-use Rattle.text.specs.declared.Number.{Number}
-use Rattle.text.specs.declared.Number.TheVariants as N
+use Rattle.std.specs.Prelude.{Option, Some, None}
 use Rattle.text.specs.Pairs.{Pairs, pairs, none, pairs_of, within}
 
 -- a value with its bytes, `-`, or neither
@@ -15,9 +14,9 @@ pub data Operand : Type 0 where
   unused : Operand
   bad : Operand
 
-abbrev pub number_operand : Number → Operand
-number_operand (N.Is n) = operand (Val.Integer n) []
-number_operand N.Bad = bad
+abbrev pub number_operand : Option ℕ → Operand
+number_operand (Some n) = operand (Val.Integer n) []
+number_operand None = bad
 
 abbrev pub bytes_operand : AmlValue → Pairs → Operand
 bytes_operand v (pairs l) = operand v l

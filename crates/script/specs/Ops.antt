@@ -9,20 +9,17 @@ use Rattle.text.specs.Lines.{begins}
 use Rattle.text.specs.Written.{decimal_text, hex_text}
 use Rattle.value.specs.Conversions.{held_by, to_buffer, Bytes, these, none}
 use Rattle.value.specs.Integers.{def_to_integer}
-use Rattle.value.specs.declared.convert.IntegerAnswer.{IntegerAnswer}
-use Rattle.value.specs.declared.convert.IntegerAnswer.TheVariants as IA
+use Rattle.std.specs.declared.cmp.Ordering.TheVariants as Or
+use Rattle.std.specs.declared.cmp.Ordering.{Ordering}
+use Rattle.std.specs.Prelude.{Result, Ok, Err, Option, Some, None}
 use Rattle.expression.specs.Numbers.{unary, binary, add, and, increment, decrement, shift_left, shift_right}
 use Rattle.expression.specs.Compare.{compare}
-use Rattle.expression.specs.declared.compare.CompareAnswer.{CompareAnswer}
-use Rattle.expression.specs.declared.compare.CompareAnswer.TheVariants as C
 use Rattle.expression.specs.Mid.{mid}
 use Rattle.expression.specs.Concat.{Joined, a_buffer, a_string, refused, joined, join_resources}
 use Rattle.script.specs.declared.op.NumberOp.{NumberOp}
 use Rattle.script.specs.declared.op.NumberOp.TheVariants as N
 use Rattle.script.specs.declared.op.Op.{Op}
 use Rattle.script.specs.declared.op.Op.TheVariants as O
-use Rattle.script.specs.declared.op.OpAnswer.{OpAnswer}
-use Rattle.script.specs.declared.op.OpAnswer.TheVariants as OA
 
 -- ---- answers: a status, and the text of a value
 
@@ -37,16 +34,16 @@ shown l = record { status = 0; text = l }
 abbrev pub refused_by : Refusal → Shown
 refused_by r = record { status = number_of r; text = 45 ∷ [] }
 
-abbrev pub of_integer : IntegerAnswer → Shown
-of_integer (IA.Integer n) = shown (decimal_text n)
-of_integer (IA.Refused r) = refused_by r
+abbrev pub of_integer : Result ℕ Refusal → Shown
+of_integer (Ok n) = shown (decimal_text n)
+of_integer (Err r) = refused_by r
 
 -- "cmp 0, 1, 2 for less, equal, greater"
-abbrev pub of_compare : CompareAnswer → Shown
-of_compare C.Less = shown (48 ∷ [])
-of_compare C.Equal = shown (49 ∷ [])
-of_compare C.Greater = shown (50 ∷ [])
-of_compare (C.Refused r) = refused_by r
+abbrev pub of_compare : Result Ordering Refusal → Shown
+of_compare (Ok Or.Less) = shown (48 ∷ [])
+of_compare (Ok Or.Equal) = shown (49 ∷ [])
+of_compare (Ok Or.Greater) = shown (50 ∷ [])
+of_compare (Err r) = refused_by r
 
 -- "a buffer behind `x`, a string behind `s`"
 abbrev pub buffer_letter : List ℕ
@@ -83,7 +80,7 @@ letter_of Val.ThermalZone = buffer_letter
 
 -- ---- what each op answers, of a, b and c with their bytes
 
-abbrev pub number_op : NumberOp → AmlValue → List ℕ → AmlValue → List ℕ → IntegerAnswer
+abbrev pub number_op : NumberOp → AmlValue → List ℕ → AmlValue → List ℕ → Result ℕ Refusal
 number_op N.Add a s b t = binary add a s b t
 number_op N.And a s b t = binary and a s b t
 number_op N.Increment a s b t = unary increment a s
@@ -128,6 +125,6 @@ abbrev pub same : List ℕ → List ℕ → Bool
 same name l = eqb (length l) (length name) && begins name l
 
 -- the row of a name
-unfoldable pub row_of : List Row → List ℕ → OpAnswer
-row_of [] l = OA.Unknown
-row_of (r ∷ rows) l = cond (same r.name l) (OA.Is r.op r.used) (row_of rows l)
+unfoldable pub row_of : List Row → List ℕ → Option (Op × ℕ)
+row_of [] l = None
+row_of (r ∷ rows) l = cond (same r.name l) (Some (r.op, r.used)) (row_of rows l)

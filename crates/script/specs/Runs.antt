@@ -10,8 +10,7 @@ use Rattle.value.specs.Conversions.{Given, these, giving}
 use Rattle.script.specs.Operands.{Operand, operand, unused, bad, operand_of}
 use Rattle.script.specs.Ops.{Shown, refused_by, answer_of, ops, row_of}
 use Rattle.script.specs.declared.op.Op.{Op}
-use Rattle.script.specs.declared.op.OpAnswer.{OpAnswer}
-use Rattle.script.specs.declared.op.OpAnswer.TheVariants as OA
+use Rattle.std.specs.Prelude.{Option, Some, None}
 
 -- ---- a line with its name
 
@@ -108,9 +107,9 @@ unfoldable pub with_op : Op → ℕ → List ℕ → Told
 with_op op n s = with_a op n (operand_line a_name (ltb 0 n) s)
 
 -- "the op unknown"
-abbrev pub by_name : OpAnswer → List ℕ → Told
-by_name (OA.Is op n) rest = with_op op n rest
-by_name OA.Unknown rest = malformed
+abbrev pub by_name : Option (Op × ℕ) → List ℕ → Told
+by_name (Some p) rest = with_op p.0 p.1 rest
+by_name None rest = malformed
 
 abbrev pub op_line : Named → Told
 op_line (named l rest) = by_name (row_of ops l) rest

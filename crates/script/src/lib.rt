@@ -13,16 +13,15 @@ ghost use Rattle.value.specs.Conversions.{given};
 ghost use Rattle.script.specs.Runs as S;
 
 use types::refusal::Refusal;
-use value::convert::LengthAnswer;
 
 // Answers every job of the input at the front of the output. The answers are counted first, with nowhere to write them: 20 changes nothing.
-pub fn script(input: &[u8], out: &mut [u8]) -> LengthAnswer
+pub fn script(input: &[u8], out: &mut [u8]) -> Result<usize, Refusal>
     ensures { given result out.new ≡ S.script input.now out.old }
 {
     let n = run::answers(input, &mut out[..0]);
     if out.len() < n {
-        return LengthAnswer::Refused(Refusal::OutputTooShort);
+        return Err(Refusal::OutputTooShort);
     }
     run::answers(input, out);
-    LengthAnswer::Length(n)
+    Ok(n)
 }

@@ -2,8 +2,6 @@
 ghost use Rattle.std.specs.Prelude.{◌≡◌};
 ghost use Rattle.script.specs.Ops as Ops;
 
-use text::lines::begins_with;
-
 // The ops that answer a number.
 #[derive(Clone, Copy)]
 pub enum NumberOp {
@@ -25,64 +23,28 @@ pub enum Op {
     Compare,
 }
 
-#[derive(Clone, Copy)]
-pub enum OpAnswer {
-    Is(Op, usize),
-    Unknown,
-}
+const ROWS: [(&[u8], Op, usize); 11] = [
+    (b"add", Op::Number(NumberOp::Add), 2),
+    (b"and", Op::Number(NumberOp::And), 2),
+    (b"inc", Op::Number(NumberOp::Increment), 1),
+    (b"dec", Op::Number(NumberOp::Decrement), 1),
+    (b"shl", Op::Number(NumberOp::ShiftLeft), 2),
+    (b"shr", Op::Number(NumberOp::ShiftRight), 2),
+    (b"mid", Op::Mid, 3),
+    (b"concat", Op::Concat, 2),
+    (b"concatres", Op::ConcatRes, 2),
+    (b"toint", Op::Number(NumberOp::ToInteger), 1),
+    (b"cmp", Op::Compare, 2),
+];
 
-// Is this text the name?
-fn same(s: &[u8], name: &[u8]) -> bool
-    ensures { result ≡ Ops.same name.now s.now }
-{
-    if s.len() != name.len() {
-        return false;
-    }
-    begins_with(s, name)
-}
-
-fn number(op: NumberOp, used: usize) -> OpAnswer
-    ensures { result ≡ OpAnswer.Is (Op.Number op) used }
-{
-    OpAnswer::Is(Op::Number(op), used)
-}
-
-// The table: the row of a name.
-pub(crate) fn op_of(s: &[u8]) -> OpAnswer
+// The row of a name: its op, and how many operands that uses.
+pub(crate) fn op_of(s: &[u8]) -> Option<(Op, usize)>
     ensures { result ≡ Ops.row_of Ops.ops s.now }
 {
-    if same(s, b"add") {
-        return number(NumberOp::Add, 2);
+    for &(name, op, used) in &ROWS {
+        if name == s {
+            return Some((op, used));
+        }
     }
-    if same(s, b"and") {
-        return number(NumberOp::And, 2);
-    }
-    if same(s, b"inc") {
-        return number(NumberOp::Increment, 1);
-    }
-    if same(s, b"dec") {
-        return number(NumberOp::Decrement, 1);
-    }
-    if same(s, b"shl") {
-        return number(NumberOp::ShiftLeft, 2);
-    }
-    if same(s, b"shr") {
-        return number(NumberOp::ShiftRight, 2);
-    }
-    if same(s, b"mid") {
-        return OpAnswer::Is(Op::Mid, 3);
-    }
-    if same(s, b"concat") {
-        return OpAnswer::Is(Op::Concat, 2);
-    }
-    if same(s, b"concatres") {
-        return OpAnswer::Is(Op::ConcatRes, 2);
-    }
-    if same(s, b"toint") {
-        return number(NumberOp::ToInteger, 1);
-    }
-    if same(s, b"cmp") {
-        return OpAnswer::Is(Op::Compare, 2);
-    }
-    OpAnswer::Unknown
+    None
 }

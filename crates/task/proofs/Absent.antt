@@ -11,8 +11,8 @@ use borrow.Author.Tests.{eqb-false}
 use Rattle.types.specs.Refusals.{first_of}
 use Rattle.types.specs.declared.flags.FieldUpdateRule.{FieldUpdateRule}
 use Rattle.types.specs.declared.flags.FieldUpdateRule.TheVariants as U
-use Rattle.types.specs.declared.refusal.Outcome.{Outcome}
-use Rattle.types.specs.declared.refusal.Outcome.TheVariants as O
+use Rattle.std.specs.Prelude.{⊤, Result, Ok, Err}
+use Rattle.types.specs.declared.refusal.Refusal.{Refusal}
 use Rattle.field_unit.specs.Accesses.{Plan, first, last, units, covered, part_accesses, unit_accesses, accesses_from, accesses}
 use Rattle.field_unit.specs.Calls.{plan_of, count_of, access_at}
 use Rattle.field_unit.specs.declared.access.Access.TheVariants.{Load, Store}
@@ -103,14 +103,14 @@ module _ (m : Moment) (s : Sound m.table) (v : AllUnstored m) (i : ℕ) (p : Ste
 call_unstored : (m : Moment) → Sound m.table → AllUnstored m → (c : Call) → AllUnstored (called m c)
 call_unstored m s v (start_call i o) = go (first_of (start_checks m.table m.region i o)) refl
   where
-    go : (r : Outcome) → first_of (start_checks m.table m.region i o) ≡ r → AllUnstored (called m (start_call i o))
-    go O.Done e = subst AllUnstored (sym (start_accepted m i o e)) (start_unstored m s v i o (start_passed m.table m.region i o e))
-    go (O.Refused r) e = subst AllUnstored (sym (start_refused m i o r e)) v
+    go : (r : Result ⊤ Refusal) → first_of (start_checks m.table m.region i o) ≡ r → AllUnstored (called m (start_call i o))
+    go (Ok tt) e = subst AllUnstored (sym (start_accepted m i o e)) (start_unstored m s v i o (start_passed m.table m.region i o e))
+    go (Err r) e = subst AllUnstored (sym (start_refused m i o r e)) v
 call_unstored m s v (step_call i) = go (first_of (step_checks m.table m.region i)) refl
   where
-    go : (r : Outcome) → first_of (step_checks m.table m.region i) ≡ r → AllUnstored (called m (step_call i))
-    go O.Done e = subst AllUnstored (sym (step_accepted m i e)) (step_unstored m s v i (step_passed m.table m.region i e))
-    go (O.Refused r) e = subst AllUnstored (sym (step_refused m i r e)) v
+    go : (r : Result ⊤ Refusal) → first_of (step_checks m.table m.region i) ≡ r → AllUnstored (called m (step_call i))
+    go (Ok tt) e = subst AllUnstored (sym (step_accepted m i e)) (step_unstored m s v i (step_passed m.table m.region i e))
+    go (Err r) e = subst AllUnstored (sym (step_refused m i r e)) v
 
 run_unstored : (m : Moment) → Sound m.table → AllUnstored m → (cs : List Call) → AllUnstored (ran m cs)
 run_unstored m s v [] = v

@@ -8,13 +8,13 @@ use mathlib.Core.List.{List, [], ◌++◌, append-nil}
 use borrow.Author.Tests.{ltb-false}
 use Rattle.types.specs.Refusals.{first_of}
 use Rattle.types.specs.declared.refusal.Refusal.{Refusal}
-use Rattle.types.specs.declared.refusal.Outcome.TheVariants as O
+use Rattle.std.specs.Prelude.{Result, Ok, Err}
+use Rattle.task.specs.declared.table.Step.{Step}
 use Rattle.field_unit.specs.Calls.{Accepted}
 use Rattle.field_unit.specs.declared.access.FieldOp.{FieldOp}
 use Rattle.task.specs.Tasks.{task_at, malformed, start_checks, with_task, started, start, waits, step_checks, accessed, is_last, answer_after, stepped_table, step, step_region}
 use Rattle.task.specs.Runs.{start_call, step_call, Moment, change, ends, stored_by, called}
 use Rattle.task.specs.declared.table.Table.{Table}
-use Rattle.task.specs.declared.table.StepAnswer.{StepAnswer}
 use Rattle.types.proofs.Judging.{none_holds, none_gives}
 use Rattle.types.proofs.Tests.{not_false}
 
@@ -27,7 +27,7 @@ pub record StartPassed (t : Table) (i : ℕ) (o : FieldOp) : Type 0 where
   pub idle : (task_at t i).busy ≡ false
   pub field : Accepted o t.size
 
-pub start_passed : (t : Table) (s : List ℕ) (i : ℕ) (o : FieldOp) → first_of (start_checks t s i o) ≡ O.Done → StartPassed t i o
+pub start_passed : (t : Table) (s : List ℕ) (i : ℕ) (o : FieldOp) → first_of (start_checks t s i o) ≡ Ok tt → StartPassed t i o
 unfolding start_checks
 start_passed t s i o e =
     let n = none_holds (start_checks t s i o) e in
@@ -47,12 +47,12 @@ after_accepted m i o =
       stored = change m.stored i [];
     }
 
-pub start_accepted : (m : Moment) (i : ℕ) (o : FieldOp) → first_of (start_checks m.table m.region i o) ≡ O.Done
+pub start_accepted : (m : Moment) (i : ℕ) (o : FieldOp) → first_of (start_checks m.table m.region i o) ≡ Ok tt
     → called m (start_call i o) ≡ after_accepted m i o
 unfolding start
 start_accepted m i o e = rw e refl
 
-pub start_refused : (m : Moment) (i : ℕ) (o : FieldOp) (r : Refusal) → first_of (start_checks m.table m.region i o) ≡ O.Refused r
+pub start_refused : (m : Moment) (i : ℕ) (o : FieldOp) (r : Refusal) → first_of (start_checks m.table m.region i o) ≡ Err r
     → called m (start_call i o) ≡ m
 unfolding start
 start_refused m i o r e = rw e refl
@@ -65,7 +65,7 @@ pub record StepPassed (t : Table) (i : ℕ) : Type 0 where
   pub busy : (task_at t i).busy ≡ true
   pub turn : waits t i ≡ false
 
-pub step_passed : (t : Table) (s : List ℕ) (i : ℕ) → first_of (step_checks t s i) ≡ O.Done → StepPassed t i
+pub step_passed : (t : Table) (s : List ℕ) (i : ℕ) → first_of (step_checks t s i) ≡ Ok tt → StepPassed t i
 unfolding step_checks
 step_passed t s i e =
     let n = none_holds (step_checks t s i) e in
@@ -76,7 +76,7 @@ step_passed t s i e =
       turn = n.1.1.1.1.1.0;
     }
 
-abbrev pub step_answer : Moment → ℕ → StepAnswer
+abbrev pub step_answer : Moment → ℕ → Result Step Refusal
 step_answer m i =
     answer_after (is_last (task_at m.table i)) (task_at m.table i).op.write (accessed (task_at m.table i) m.region).held
 
@@ -89,10 +89,10 @@ after_access m i =
       stored = stored_by m i (step_answer m i);
     }
 
-pub step_accepted : (m : Moment) (i : ℕ) → first_of (step_checks m.table m.region i) ≡ O.Done → called m (step_call i) ≡ after_access m i
+pub step_accepted : (m : Moment) (i : ℕ) → first_of (step_checks m.table m.region i) ≡ Ok tt → called m (step_call i) ≡ after_access m i
 unfolding step step_region
 step_accepted m i e = rw e refl
 
-pub step_refused : (m : Moment) (i : ℕ) (r : Refusal) → first_of (step_checks m.table m.region i) ≡ O.Refused r → called m (step_call i) ≡ m
+pub step_refused : (m : Moment) (i : ℕ) (r : Refusal) → first_of (step_checks m.table m.region i) ≡ Err r → called m (step_call i) ≡ m
 unfolding step step_region
 step_refused m i r e = rw e (λ k. record { table = m.table; region = m.region; finished = append-nil m.finished k; stored = m.stored })

@@ -17,7 +17,8 @@ use Rattle.field_unit.specs.Accesses.{unit_accesses, accesses_from, gathered, ot
 use Rattle.field_unit.specs.declared.access.FieldOp.{FieldOp}
 use Rattle.task.specs.Tasks.{malformed, start_checks, start, step_checks, step, step_region}
 use Rattle.task.specs.Runs.{Call, start_call, step_call, opening, ran, AgreedThroughout, AllEnded, region_after, answers_of, ops, answers}
-use Rattle.task.specs.declared.table.StepAnswer.TheVariants as ST
+use Rattle.std.specs.Prelude.{Ok, Err}
+use Rattle.task.specs.declared.table.Step.TheVariants as St
 use Rattle.task.proofs.Premise.{agreed_throughout}
 use Rattle.task.proofs.Together.{together}
 
@@ -48,7 +49,7 @@ unfolding bit_of bit_at run bytes put with_bits access_width first_of field_chec
 premise_met = agreed_throughout bytes_then in_turn (omega arith) refl
 
 -- the second writer meets the lock
-pub turned_away : (step (ran (opening bytes_then) (take 4 in_turn)).table bytes_then 1).answer ≡ ST.Refused R.LockHeld
+pub turned_away : (step (ran (opening bytes_then) (take 4 in_turn)).table bytes_then 1).answer ≡ Err R.LockHeld
 unfolding bit_of bit_at run bytes put with_bits access_width first_of field_checks unit_accesses accesses_from gathered others merged act acts malformed start_checks start step_checks step step_region
 turned_away = refl
 
@@ -63,7 +64,7 @@ all_ended (suc (suc (suc (suc i)))) = refl
 -- who finished, what each answered, and the region
 pub both_written :
     (ops (ran (opening bytes_then) in_turn).finished ≡ lower ∷ beside ∷ upper ∷ [])
-    × (answers (ran (opening bytes_then) in_turn).finished ≡ ST.Done ∷ ST.Value 0x3412 ∷ ST.Done ∷ [])
+    × (answers (ran (opening bytes_then) in_turn).finished ≡ Ok St.Done ∷ Ok (St.Value 0x3412) ∷ Ok St.Done ∷ [])
     × ((ran (opening bytes_then) in_turn).region ≡ 0xA5 ∷ 0x12 ∷ 0x34 ∷ [])
 unfolding bit_of bit_at run bytes put with_bits access_width first_of field_checks unit_accesses accesses_from gathered others merged act acts malformed start_checks start step_checks step step_region
 both_written = (refl, refl, refl)

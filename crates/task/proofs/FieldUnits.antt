@@ -29,8 +29,10 @@ use Rattle.field_unit.specs.declared.access.FieldOp.{FieldOp}
 use Rattle.together.specs.System.{System, Laws, put_all, first}
 use Rattle.task.specs.Tasks.{carries_lock}
 use Rattle.task.specs.Runs.{StoreMade, store_of, Touches}
-use Rattle.task.specs.declared.table.StepAnswer.{StepAnswer}
-use Rattle.task.specs.declared.table.StepAnswer.TheVariants as ST
+use Rattle.std.specs.Prelude.{Result, Ok}
+use Rattle.task.specs.declared.table.Step.TheVariants as St
+use Rattle.task.specs.declared.table.Step.{Step}
+use Rattle.types.specs.declared.refusal.Refusal.{Refusal}
 
 -- ---- the system
 
@@ -45,8 +47,8 @@ abbrev pub stores_at : FieldOp → ℕ → ℕ → List StoreMade
 stores_at o k h = cond (ltb k (count_of o)) (store_of (plan_of o) (access_at o k) h) []
 
 -- "answers done (a read with its value)"
-abbrev pub last_answer : FieldOp → ℕ → StepAnswer
-last_answer o h = cond o.write ST.Done (ST.Value h)
+abbrev pub last_answer : FieldOp → ℕ → Result Step Refusal
+last_answer o h = cond o.write (Ok St.Done) (Ok (St.Value h))
 
 abbrev pub fields : System
 fields =
@@ -57,7 +59,7 @@ fields =
       Shape = ℕ;
       Op = FieldOp;
       Held = ℕ;
-      Answer = StepAnswer;
+      Answer = Result Step Refusal;
       Store = StoreMade;
       at = λ s c. get_or s c 0;
       shape = λ s. length s;

@@ -10,8 +10,10 @@ use mathlib.Core.List.{List, [], ◌∷◌, ◌++◌, append-nil}
 use lib.ListN.{length, take}
 use borrow.Author.Tests.{eqb-true, lt-ltb, eq-eqb, ne_eqb}
 use Rattle.types.specs.Refusals.{first_of}
-use Rattle.types.specs.declared.refusal.Outcome.{Outcome}
-use Rattle.types.specs.declared.refusal.Outcome.TheVariants as O
+use Rattle.std.specs.Prelude.{⊤, Result, Ok, Err}
+use Rattle.task.specs.declared.table.Step.TheVariants as St
+use Rattle.task.specs.declared.table.Step.{Step}
+use Rattle.types.specs.declared.refusal.Refusal.{Refusal}
 use Rattle.field_unit.specs.Calls.{plan_of, count_of, access_at}
 use Rattle.field_unit.specs.declared.access.FieldOp.{FieldOp}
 use Rattle.together.specs.System.{Slot, Ended, Conf, Active, Apart, NextAccess, Move, stay, begin, more, last, Run, then}
@@ -19,8 +21,6 @@ use Rattle.task.specs.Tasks.{task_at, carries_lock, start_checks, started, step_
 use Rattle.task.specs.Runs.{Call, start_call, step_call, StoreMade, Finished, Moment, store_of, next_store, change, ends, stored_by, called, ran, Agreed}
 use Rattle.task.specs.declared.table.Task.{Task}
 use Rattle.task.specs.declared.table.Table.{Table}
-use Rattle.task.specs.declared.table.StepAnswer.{StepAnswer}
-use Rattle.task.specs.declared.table.StepAnswer.TheVariants as ST
 use Rattle.types.proofs.Tests.{and_true}
 use Rattle.task.proofs.FieldUnits.{stores_at, last_answer, fields, region_at, held_after}
 use Rattle.task.proofs.Calls.{StartPassed, start_passed, after_accepted, start_accepted, start_refused, StepPassed, step_passed, step_answer, after_access, step_accepted, step_refused}
@@ -50,11 +50,11 @@ change_other f i l j n = ap (λ b. cond b l (f j)) (ne_eqb j i n)
 pub change_this : (f : ℕ → List StoreMade) (i : ℕ) (l : List StoreMade) → change f i l i ≡ l
 change_this f i l = ap (λ b. cond b l (f i)) (eq-eqb i i refl)
 
-pub stored_other : (m : Moment) (i : ℕ) (a : StepAnswer) (j : ℕ) → (j ≡ i → ⊥) → stored_by m i a j ≡ m.stored j
-stored_other m i ST.More j n = change_other m.stored i _ j n
-stored_other m i ST.Done j n = change_other m.stored i _ j n
-stored_other m i (ST.Value v) j n = change_other m.stored i _ j n
-stored_other m i (ST.Refused r) j n = refl
+pub stored_other : (m : Moment) (i : ℕ) (a : Result Step Refusal) (j : ℕ) → (j ≡ i → ⊥) → stored_by m i a j ≡ m.stored j
+stored_other m i (Ok St.More) j n = change_other m.stored i _ j n
+stored_other m i (Ok St.Done) j n = change_other m.stored i _ j n
+stored_other m i (Ok (St.Value v)) j n = change_other m.stored i _ j n
+stored_other m i (Err r) j n = refl
 
 -- ---- a step
 
@@ -62,14 +62,14 @@ stored_other m i (ST.Refused r) j n = refl
 ends_with : (o : FieldOp) (h : ℕ) → ended (ends o (last_answer o h)) ≡ record { op = o; got = last_answer o h } ∷ []
 ends_with o h = go o.write
   where
-    go : (w : Bool) → ended (ends o (cond w ST.Done (ST.Value h))) ≡ record { op = o; got = cond w ST.Done (ST.Value h) } ∷ []
+    go : (w : Bool) → ended (ends o (cond w (Ok St.Done) (Ok (St.Value h)))) ≡ record { op = o; got = cond w (Ok St.Done) (Ok (St.Value h)) } ∷ []
     go true = refl
     go false = refl
 
 answer_last : (o : FieldOp) (h : ℕ) → answer_after true o.write h ≡ last_answer o h
 answer_last o h = go o.write
   where
-    go : (w : Bool) → answer_after true w h ≡ cond w ST.Done (ST.Value h)
+    go : (w : Bool) → answer_after true w h ≡ cond w (Ok St.Done) (Ok (St.Value h))
     go true = refl
     go false = refl
 
@@ -135,7 +135,7 @@ module _ (m : Moment) (s : Sound m.table) (i : ℕ) (p : StepPassed m.table i) w
       task : task_at (after_access m i).table i ≡ record { busy = true; op = me.op; made = me.made + 1; held = held_now }
       task = here_now ∙ ap (λ b. task_after b me held_now) e
 
-      answer : step_answer m i ≡ ST.More
+      answer : step_answer m i ≡ Ok St.More
       answer = ap (λ b. answer_after b me.op.write held_now) e
 
   step_last : is_last me ≡ true → Move fields (view m) (view (after_access m i))
@@ -173,15 +173,15 @@ start_move m s i o p =
 pub move : (m : Moment) → Sound m.table → (c : Call) → Move fields (view m) (view (called m c))
 move m s (start_call i o) = go (first_of (start_checks m.table m.region i o)) refl
   where
-    go : (r : Outcome) → first_of (start_checks m.table m.region i o) ≡ r → Move fields (view m) (view (called m (start_call i o)))
-    go O.Done e =
+    go : (r : Result ⊤ Refusal) → first_of (start_checks m.table m.region i o) ≡ r → Move fields (view m) (view (called m (start_call i o)))
+    go (Ok tt) e =
         subst (λ d. Move fields (view m) (view d)) (sym (start_accepted m i o e)) (start_move m s i o (start_passed m.table m.region i o e))
-    go (O.Refused r) e = subst (λ d. Move fields (view m) (view d)) (sym (start_refused m i o r e)) (stay (λ j. refl) refl refl)
+    go (Err r) e = subst (λ d. Move fields (view m) (view d)) (sym (start_refused m i o r e)) (stay (λ j. refl) refl refl)
 move m s (step_call i) = go (first_of (step_checks m.table m.region i)) refl
   where
-    go : (r : Outcome) → first_of (step_checks m.table m.region i) ≡ r → Move fields (view m) (view (called m (step_call i)))
-    go O.Done e = subst (λ d. Move fields (view m) (view d)) (sym (step_accepted m i e)) (step_move m s i (step_passed m.table m.region i e))
-    go (O.Refused r) e = subst (λ d. Move fields (view m) (view d)) (sym (step_refused m i r e)) (stay (λ j. refl) refl refl)
+    go : (r : Result ⊤ Refusal) → first_of (step_checks m.table m.region i) ≡ r → Move fields (view m) (view (called m (step_call i)))
+    go (Ok tt) e = subst (λ d. Move fields (view m) (view d)) (sym (step_accepted m i e)) (step_move m s i (step_passed m.table m.region i e))
+    go (Err r) e = subst (λ d. Move fields (view m) (view d)) (sym (step_refused m i r e)) (stay (λ j. refl) refl refl)
 
 -- a run from m, after moves from c
 pub follow : (c : Conf fields) (m : Moment) → Sound m.table → Run fields (Apart fields) c (view m) → (cs : List Call)

@@ -15,8 +15,8 @@ use lib.Seq.{get_or-set_same, get_or-set_other}
 use borrow.Author.Tests.{eqb-true, eqb-false, le-ltb, lt-ltb, lt-leb, eq-eqb}
 use Rattle.bits.proofs.Laws.{lt_cases}
 use Rattle.types.specs.Refusals.{first_of}
-use Rattle.types.specs.declared.refusal.Outcome.{Outcome}
-use Rattle.types.specs.declared.refusal.Outcome.TheVariants as O
+use Rattle.std.specs.Prelude.{⊤, Result, Ok, Err}
+use Rattle.types.specs.declared.refusal.Refusal.{Refusal}
 use Rattle.field_unit.specs.Calls.{count_of, Accepted}
 use Rattle.field_unit.specs.declared.access.FieldOp.{FieldOp}
 use Rattle.task.specs.Tasks.{idle, task_at, fresh, carries_lock, locks, wrong_holder, bad_task, refused, malformed, start_checks, with_task, started, step_checks, is_last, task_after, holder_after, stepped_table}
@@ -225,14 +225,14 @@ module _ (t : Table) (s : Sound t) (i : ℕ) (p : StepPassed t i) where
 pub sound_call : (m : Moment) → Sound m.table → (c : Call) → Sound (called m c).table
 sound_call m s (start_call i o) = go (first_of (start_checks m.table m.region i o)) refl
   where
-    go : (r : Outcome) → first_of (start_checks m.table m.region i o) ≡ r → Sound (called m (start_call i o)).table
-    go O.Done e = subst (λ d. Sound d.table) (sym (start_accepted m i o e)) (sound_start m.table s i o (start_passed m.table m.region i o e))
-    go (O.Refused r) e = subst (λ d. Sound d.table) (sym (start_refused m i o r e)) s
+    go : (r : Result ⊤ Refusal) → first_of (start_checks m.table m.region i o) ≡ r → Sound (called m (start_call i o)).table
+    go (Ok tt) e = subst (λ d. Sound d.table) (sym (start_accepted m i o e)) (sound_start m.table s i o (start_passed m.table m.region i o e))
+    go (Err r) e = subst (λ d. Sound d.table) (sym (start_refused m i o r e)) s
 sound_call m s (step_call i) = go (first_of (step_checks m.table m.region i)) refl
   where
-    go : (r : Outcome) → first_of (step_checks m.table m.region i) ≡ r → Sound (called m (step_call i)).table
-    go O.Done e = subst (λ d. Sound d.table) (sym (step_accepted m i e)) (sound_step m.table s i (step_passed m.table m.region i e) _)
-    go (O.Refused r) e = subst (λ d. Sound d.table) (sym (step_refused m i r e)) s
+    go : (r : Result ⊤ Refusal) → first_of (step_checks m.table m.region i) ≡ r → Sound (called m (step_call i)).table
+    go (Ok tt) e = subst (λ d. Sound d.table) (sym (step_accepted m i e)) (sound_step m.table s i (step_passed m.table m.region i e) _)
+    go (Err r) e = subst (λ d. Sound d.table) (sym (step_refused m i r e)) s
 
 pub sound_run : (m : Moment) → Sound m.table → (cs : List Call) → Sound (ran m cs).table
 sound_run m s [] = s

@@ -1,21 +1,20 @@
 -- Demand 3 and "after any number of calls": runs of calls from a fresh table, the premise, and what is claimed.
 -- Assumes nothing.
-use Rattle.std.specs.Prelude.{ℕ, ◌+◌, ◌*◌, ◌≤◌, ◌<◌, ◌≡◌, ◌⊎◌, true, false, cond, List, [], ◌∷◌, ◌++◌, map, eqb, length, get_or, take}
+use Rattle.std.specs.Prelude.{ℕ, ◌+◌, ◌*◌, ◌≤◌, ◌<◌, ◌≡◌, ◌⊎◌, true, false, cond, List, [], ◌∷◌, ◌++◌, map, eqb, length, get_or, take, Result, Ok, Err}
 use Rattle.bits.specs.Bits.{set_bits}
 use Rattle.field_unit.specs.Accesses.{Plan, base, first, last, merged, whole}
 use Rattle.field_unit.specs.Calls.{plan_of, access_at}
 use Rattle.field_unit.specs.declared.access.Access.{Access}
 use Rattle.field_unit.specs.declared.access.Access.TheVariants.{Load, Store}
 use Rattle.field_unit.specs.declared.access.FieldOp.{FieldOp}
+use Rattle.task.specs.declared.table.Started.{Started}
+use Rattle.task.specs.declared.table.Stepped.{Stepped}
 use Rattle.task.specs.Tasks.{task_at, fresh, malformed, start, step, step_region, carries_lock}
 use Rattle.task.specs.declared.table.Task.{Task}
 use Rattle.task.specs.declared.table.Table.{Table}
-use Rattle.task.specs.declared.table.Started.{Started}
-use Rattle.task.specs.declared.table.StartAnswer.{StartAnswer}
-use Rattle.task.specs.declared.table.StartAnswer.TheVariants as SA
-use Rattle.task.specs.declared.table.Stepped.{Stepped}
-use Rattle.task.specs.declared.table.StepAnswer.{StepAnswer}
-use Rattle.task.specs.declared.table.StepAnswer.TheVariants as ST
+use Rattle.task.specs.declared.table.Step.TheVariants as St
+use Rattle.task.specs.declared.table.Step.{Step}
+use Rattle.types.specs.declared.refusal.Refusal.{Refusal}
 
 -- ---- calls, and what there is between two of them
 
@@ -32,7 +31,7 @@ pub record StoreMade : Type 0 where
 -- an operation that ended, and what its last step answered
 pub record Finished : Type 0 where
   pub op : FieldOp
-  pub got : StepAnswer
+  pub got : Result Step Refusal
 
 -- the table, the region; the operations that ended, in the order in which they finished; the stores each task has made since its start
 pub record Moment : Type 0 where
@@ -58,21 +57,21 @@ change f i l = λ j. cond (eqb j i) l (f j)
 abbrev pub after_start : Moment → ℕ → Started → Moment
 after_start m i a = record { table = a.table; region = m.region; finished = m.finished; stored = begun a.answer }
   where
-    begun : StartAnswer → (ℕ → List StoreMade)
-    begun (SA.Count n) = change m.stored i []
-    begun (SA.Refused r) = m.stored
+    begun : Result ℕ Refusal → (ℕ → List StoreMade)
+    begun (Ok n) = change m.stored i []
+    begun (Err r) = m.stored
 
-abbrev pub ends : FieldOp → StepAnswer → List Finished
-ends o ST.More = []
-ends o ST.Done = record { op = o; got = ST.Done } ∷ []
-ends o (ST.Value v) = record { op = o; got = ST.Value v } ∷ []
-ends o (ST.Refused r) = []
+abbrev pub ends : FieldOp → Result Step Refusal → List Finished
+ends o (Ok St.More) = []
+ends o (Ok St.Done) = record { op = o; got = Ok St.Done } ∷ []
+ends o (Ok (St.Value v)) = record { op = o; got = Ok (St.Value v) } ∷ []
+ends o (Err r) = []
 
-abbrev pub stored_by : Moment → ℕ → StepAnswer → (ℕ → List StoreMade)
-stored_by m i ST.More = change m.stored i (m.stored i ++ next_store (task_at m.table i))
-stored_by m i ST.Done = change m.stored i []
-stored_by m i (ST.Value v) = change m.stored i []
-stored_by m i (ST.Refused r) = m.stored
+abbrev pub stored_by : Moment → ℕ → Result Step Refusal → (ℕ → List StoreMade)
+stored_by m i (Ok St.More) = change m.stored i (m.stored i ++ next_store (task_at m.table i))
+stored_by m i (Ok St.Done) = change m.stored i []
+stored_by m i (Ok (St.Value v)) = change m.stored i []
+stored_by m i (Err r) = m.stored
 
 abbrev pub after_step : Moment → ℕ → Stepped → Moment
 after_step m i a =
@@ -119,21 +118,21 @@ AllEnded t = (i : ℕ) → (task_at t i).busy ≡ false
 abbrev pub whole_region : FieldOp → List ℕ → List ℕ
 whole_region o s = (whole (plan_of o) s).region
 
-abbrev pub whole_answer : FieldOp → List ℕ → StepAnswer
-whole_answer o s = cond o.write ST.Done (ST.Value (whole (plan_of o) s).held)
+abbrev pub whole_answer : FieldOp → List ℕ → Result Step Refusal
+whole_answer o s = cond o.write (Ok St.Done) (Ok (St.Value (whole (plan_of o) s).held))
 
 abbrev pub region_after : List FieldOp → List ℕ → List ℕ
 region_after [] s = s
 region_after (o ∷ os) s = region_after os (whole_region o s)
 
-abbrev pub answers_of : List FieldOp → List ℕ → List StepAnswer
+abbrev pub answers_of : List FieldOp → List ℕ → List (Result Step Refusal)
 answers_of [] s = []
 answers_of (o ∷ os) s = whole_answer o s ∷ answers_of os (whole_region o s)
 
 abbrev pub ops : List Finished → List FieldOp
 ops l = map (λ (f : Finished). f.op) l
 
-abbrev pub answers : List Finished → List StepAnswer
+abbrev pub answers : List Finished → List (Result Step Refusal)
 answers l = map (λ (f : Finished). f.got) l
 
 -- ---- the stores of the operations still under way

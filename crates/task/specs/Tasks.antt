@@ -1,11 +1,12 @@
 -- Document 01, "Four tasks" and the malformed table of "Refusal numbers": what start and step answer, and the table and the region after.
 -- Assumes nothing.
-use Rattle.std.specs.Prelude.{ℕ, ◌+◌, Bool, true, false, cond, ◌&&◌, ◌||◌, not, List, [], ◌∷◌, ◌++◌, leb, ltb, eqb, length, get_or, set, replicate}
+use Rattle.std.specs.Prelude.{ℕ, ◌+◌, Bool, true, false, cond, ◌&&◌, ◌||◌, not, List, [], ◌∷◌, ◌++◌, leb, ltb, eqb, length, get_or, set, replicate, ⊤, Result, Ok, Err}
 use Rattle.types.specs.Flags.{lock_rule}
 use Rattle.types.specs.Refusals.{Checks, first_of, judged}
 use Rattle.types.specs.declared.refusal.Refusal.TheVariants as R
-use Rattle.types.specs.declared.refusal.Outcome.{Outcome}
-use Rattle.types.specs.declared.refusal.Outcome.TheVariants as O
+use Rattle.task.specs.declared.table.Step.TheVariants as St
+use Rattle.task.specs.declared.table.Step.{Step}
+use Rattle.types.specs.declared.refusal.Refusal.{Refusal}
 use Rattle.types.specs.declared.value.RegionSpace.TheVariants as S
 use Rattle.types.specs.declared.value.FieldUnit.{FieldUnit}
 use Rattle.field_unit.specs.Checks.{field_checks}
@@ -14,12 +15,9 @@ use Rattle.field_unit.specs.Calls.{plan_of, count_of, checked, access_at}
 use Rattle.field_unit.specs.declared.access.FieldOp.{FieldOp}
 use Rattle.task.specs.declared.table.Task.{Task}
 use Rattle.task.specs.declared.table.Table.{Table}
-use Rattle.task.specs.declared.table.Made.{Made}
 use Rattle.task.specs.declared.table.Started.{Started}
-use Rattle.task.specs.declared.table.StartAnswer.TheVariants as SA
 use Rattle.task.specs.declared.table.Stepped.{Stepped}
-use Rattle.task.specs.declared.table.StepAnswer.{StepAnswer}
-use Rattle.task.specs.declared.table.StepAnswer.TheVariants as ST
+use Rattle.task.specs.declared.table.Made.{Made}
 
 -- ---- the table
 
@@ -43,8 +41,8 @@ fresh n = record { size = n; holder = 4; tasks = replicate 4 idle }
 -- 27: "a new table's region length, over 65,536 bytes"
 unfoldable pub new_table : ℕ → Made
 new_table n =
-    judged (first_of ((ltb 65536 n, R.TooManyBytes) ∷ [])) (record { table = fresh n; answer = O.Done })
-    (λ r. record { table = fresh 0; answer = O.Refused r })
+    judged (first_of ((ltb 65536 n, R.TooManyBytes) ∷ [])) (record { table = fresh n; answer = Ok tt })
+    (λ r. record { table = fresh 0; answer = Err r })
 
 -- ---- a malformed table
 
@@ -71,9 +69,9 @@ wrong_holder [] h = not (eqb h 4)
 wrong_holder (i ∷ []) h = not (eqb h i)
 wrong_holder (i ∷ j ∷ l) h = true
 
-abbrev pub refused : Outcome → Bool
-refused O.Done = false
-refused (O.Refused r) = true
+abbrev pub refused : Result ⊤ Refusal → Bool
+refused (Ok tt) = false
+refused (Err r) = true
 
 -- "a busy task's field fails the start checks, or its accesses made reach its total"
 abbrev pub bad_task : ℕ → Task → Bool
@@ -120,8 +118,8 @@ started o = record { busy = true; op = o; made = 0; held = 0 }
 unfoldable pub start : Table → List ℕ → ℕ → FieldOp → Started
 start t s i o =
     judged (first_of (start_checks t s i o))
-    (record { table = with_task t t.holder i (started o); answer = SA.Count (count_of o) })
-    (λ r. record { table = t; answer = SA.Refused r })
+    (record { table = with_task t t.holder i (started o); answer = Ok (count_of o) })
+    (λ r. record { table = t; answer = Err r })
 
 -- ---- step: "31, 24, 30, 26, 23"
 
@@ -161,10 +159,10 @@ holder_after true false i h = i
 holder_after false l i h = h
 
 -- "answers done (a read with its value)"
-abbrev pub answer_after : Bool → Bool → ℕ → StepAnswer
-answer_after true true h = ST.Done
-answer_after true false h = ST.Value h
-answer_after false w h = ST.More
+abbrev pub answer_after : Bool → Bool → ℕ → Result Step Refusal
+answer_after true true h = Ok St.Done
+answer_after true false h = Ok (St.Value h)
+answer_after false w h = Ok St.More
 
 -- the table after task i's next access, its last or not, after which it holds h
 abbrev pub table_after : Table → ℕ → Bool → ℕ → Table
@@ -178,7 +176,7 @@ abbrev pub advanced : Table → ℕ → ℕ → Stepped
 advanced t i h = record { table = stepped_table t i h; answer = answer_after (is_last (task_at t i)) (task_at t i).op.write h }
 
 unfoldable pub step : Table → List ℕ → ℕ → Stepped
-step t s i = judged (first_of (step_checks t s i)) (advanced t i (accessed (task_at t i) s).held) (λ r. record { table = t; answer = ST.Refused r })
+step t s i = judged (first_of (step_checks t s i)) (advanced t i (accessed (task_at t i) s).held) (λ r. record { table = t; answer = Err r })
 
 -- the region after a step: with that one access, or as it was
 unfoldable pub step_region : Table → List ℕ → ℕ → List ℕ

@@ -3,18 +3,19 @@
 use mathlib.Core.Path.{◌≡◌, refl, sym, ap, ◌∙◌}
 use mathlib.Core.Bool.{Bool, true, false, cond, ◌&&◌}
 use mathlib.Core.List.{List, [], ◌∷◌, ◌++◌, append_assoc, append-nil}
-use Prim.Native.Nat.{ℕ, zero, suc, ◌+◌, ◌-◌, ◌*◌, ◌/◌, ◌%◌, ◌^◌, ◌≤◌, ◌<◌}
+use Prim.Native.Nat.{ℕ, zero, suc, ◌+◌, ◌*◌, ◌/◌, ◌%◌, ◌^◌, ◌≤◌, ◌<◌}
 use native.Mathlib.Nat.{div-lt_iff_lt-mul, pow-suc}
 use native.Mathlib.Numerals.{add-one}
 use native.Mathlib.Omega.{arith}
 use borrow.Author.Tests.{lt-ltb, le-ltb, ltb-true}
 use lib.Dec.{ltb}
-use lib.ListN.{length, set, drop, length-append, drop_of_length-le}
+use lib.ListN.{length, set, drop, length-append}
+use Rattle.std.specs.Prelude.{Some}
+use Rattle.std.proofs.lemmas.Bool.Decides.{nat_tests}
 use lib.Seq.{drop-cons, get_or-set_same, drop-set-lt, lt-length-set}
 use Rattle.text.specs.Texts.{digit_of, all_digits, value_from, number_of}
-use Rattle.text.specs.declared.Number.TheVariants.{Is}
 use Rattle.text.specs.Written.{decimal_digits, decimal_text}
-use Rattle.text.proofs.Digits.{decimal_digit, good}
+use Rattle.text.proofs.Digits.{good}
 
 -- ---- how many
 
@@ -69,24 +70,16 @@ module _ (d : List ℕ) (k n : ℕ) (h : k < length d) where
   pub digits_end : n < 10 → drop k (set d k (48 + n)) ≡ decimal_digits (k + 1) n ++ drop (k + 1) d
   digits_end l = stored d k (48 + n) h ∙ ap (λ (t : List ℕ). t ++ drop (k + 1) d) (sym (single k n l))
 
--- more than one digit left: the tenth has one less
-pub deeper : (k n : ℕ) → 10 ≤ n → n < 10 ^ (k + 1) → 1 ≤ k
-deeper zero n h l = omega arith
-deeper (suc k) n h l = omega arith
-
-pub tenth : (k n : ℕ) → 10 ≤ n → n < 10 ^ (k + 1) → n / 10 < 10 ^ (k - 1 + 1)
-tenth k n h l =
-    let d = deeper k n h l in
-    let e : k - 1 + 1 ≡ k = omega arith in
+-- the tenth of a number has one digit less
+pub tenth : (k n : ℕ) → n < 10 ^ (k + 1) → n / 10 < 10 ^ k
+tenth k n l =
     let p : 10 ^ (k + 1) ≡ 10 ^ k * 10 = rw add-one (pow-suc 10 k) in
-    rw e ((div-lt_iff_lt-mul {k = 10} (omega arith)).1 (omega arith))
+    (div-lt_iff_lt-mul {k = 10} (omega arith)).1 (omega arith)
 
 -- a row of 20 with nothing in it yet
-pub digits_begin : (d : List ℕ) (n : ℕ) → length d ≡ 20 → decimal_digits 20 n ++ drop 20 d ≡ decimal_text n
+pub digits_begin : (n : ℕ) → decimal_digits 20 n ++ [] ≡ decimal_text n
 unfolding decimal_text
-digits_begin d n h =
-    let l : length d ≤ 20 = omega arith in
-    ap (λ (t : List ℕ). decimal_digits 20 n ++ t) (drop_of_length-le d l) ∙ append-nil (decimal_digits 20 n)
+digits_begin n = append-nil (decimal_digits 20 n)
 
 -- ---- reading them
 
@@ -101,9 +94,8 @@ all_last b [] c h = rw (lt-ltb _ _ h)
 all_last b (x ∷ s) c h = ap (λ (t : Bool). ltb (digit_of x) b && t) (all_last b s c h)
 
 written_digit : (d : ℕ) → d < 10 → digit_of (48 + d) ≡ d
-written_digit d h =
-    let e : 48 + d - 48 ≡ d = omega arith in
-    sym (decimal_digit (48 + d) (omega arith) (omega arith)) ∙ e
+unfolding digit_of
+written_digit d h = grind (arith, nat_tests)
 
 digits_value : (k n : ℕ) → n < 10 ^ k → value_from 10 0 (decimal_digits k n) ≡ n
 unfolding decimal_digits value_from
@@ -140,7 +132,7 @@ unfolding decimal_text
 text_all n = digits_all 20 n
 
 -- a written number reads as itself
-pub decimal_read : (n : ℕ) → n < 2 ^ 64 → number_of 10 (decimal_text n) ≡ Is n
+pub decimal_read : (n : ℕ) → n < 2 ^ 64 → number_of 10 (decimal_text n) ≡ Some n
 decimal_read n h =
     let e : value_from 10 0 (decimal_text n) ≡ n = text_value n (omega arith) in
-    good 10 (decimal_text n) (omega (arith, decimal_least n)) (text_all n) (omega arith) ∙ ap Is e
+    good 10 (decimal_text n) (omega (arith, decimal_least n)) (text_all n) (omega arith) ∙ ap Some e

@@ -3,17 +3,17 @@
 use mathlib.Core.Path.{◌≡◌, refl, sym, ap, ◌∙◌}
 use mathlib.Core.Bool.{Bool, true, false, cond, ◌&&◌}
 use mathlib.Core.List.{List, [], ◌∷◌, ◌++◌}
-use Prim.Native.Nat.{ℕ, suc, ◌+◌, ◌≤◌, ◌<◌}
+use Prim.Native.Nat.{ℕ, ◌+◌, ◌≤◌, ◌<◌}
 use native.Mathlib.Nat.{add-zero, zero-add}
-use native.Mathlib.Numerals.{add-one}
 use native.Mathlib.Omega.{arith}
-use borrow.Author.Tests.{eqb-true, eq-eqb, ne_eqb}
+use borrow.Author.Tests.{eqb-true}
 use lib.Dec.{eqb}
-use lib.ListN.{length, get_or, take, drop, length-append, drop_of_length-le}
-use lib.Seq.{drop-cons, take-append_seam, drop-append-add}
+use lib.ListN.{length, take, drop, length-append}
+use Rattle.std.specs.Prelude.{Option, Some, None}
+use Rattle.std.specs.List.{position, position_from, starts_with}
+use lib.Seq.{take-append_seam, drop-append-add}
+use Rattle.std.proofs.lemmas.Iterator.Adapters.{position_from-zero}
 use Rattle.text.specs.Lines.{Line, line, missing, longer, line_of, length_of, begins}
-use Rattle.text.specs.declared.lines.LineAnswer.{LineAnswer}
-use Rattle.text.specs.declared.lines.LineAnswer.TheVariants.{Is, Missing}
 
 -- ---- what stands around the line
 
@@ -43,7 +43,7 @@ line_length s l rest e = omega (arith, ap length (line_text s l rest e), length-
 -- ---- from the length that was found
 
 module _ (s : List ℕ) where
-  is_at : (m : Line) → line_of s ≡ m → (n : ℕ) → length_of m ≡ Is n → line_of s ≡ line (take n s) (drop (n + 1) s)
+  is_at : (m : Line) → line_of s ≡ m → (n : ℕ) → length_of m ≡ Some n → line_of s ≡ line (take n s) (drop (n + 1) s)
   is_at missing f n g = let z : ◌≡◌ {A = ℕ} 0 1 = cc in absurd (omega arith)
   is_at (line l rest) f n g =
       let t = line_text s l rest f in
@@ -52,57 +52,56 @@ module _ (s : List ℕ) where
       let b : drop (n + 1) s ≡ rest = rw (t, k) (drop-append-add l (10 ∷ rest) 1) in
       rw (a, b) f
 
-  is_inside : (m : Line) → line_of s ≡ m → (n : ℕ) → length_of m ≡ Is n → n < length s
+  is_inside : (m : Line) → line_of s ≡ m → (n : ℕ) → length_of m ≡ Some n → n < length s
   is_inside missing f n g = let z : ◌≡◌ {A = ℕ} 0 1 = cc in absurd (omega arith)
   is_inside (line l rest) f n g =
       let k : n ≡ length l = cc in
       omega (arith, line_length s l rest f)
 
-  is_missing : (m : Line) → line_of s ≡ m → length_of m ≡ Missing → line_of s ≡ missing
+  is_missing : (m : Line) → line_of s ≡ m → length_of m ≡ None → line_of s ≡ missing
   is_missing missing f g = f
   is_missing (line l rest) f g = let z : ◌≡◌ {A = ℕ} 0 1 = cc in absurd (omega arith)
 
-  module _ (r : LineAnswer) (e : r ≡ length_of (line_of s)) where
-    pub line_is : (n : ℕ) → r ≡ Is n → line_of s ≡ line (take n s) (drop (n + 1) s)
+  module _ (r : Option ℕ) (e : r ≡ length_of (line_of s)) where
+    pub line_is : (n : ℕ) → r ≡ Some n → line_of s ≡ line (take n s) (drop (n + 1) s)
     line_is n f = is_at (line_of s) refl n (sym e ∙ f)
 
-    pub line_inside : (n : ℕ) → r ≡ Is n → n < length s
+    pub line_inside : (n : ℕ) → r ≡ Some n → n < length s
     line_inside n f = is_inside (line_of s) refl n (sym e ∙ f)
 
-    pub line_missing : r ≡ Missing → line_of s ≡ missing
+    pub line_missing : r ≡ None → line_of s ≡ missing
     line_missing f = is_missing (line_of s) refl (sym e ∙ f)
 
 -- ---- finding it: the characters passed add to the length of what is left
 
-abbrev pub passed : ℕ → LineAnswer → LineAnswer
-passed i (Is n) = Is (i + n)
-passed i Missing = Missing
+abbrev pub passed : ℕ → Option ℕ → Option ℕ
+passed i (Some n) = Some (i + n)
+passed i None = None
 
 passed_more : (i : ℕ) (c : ℕ) (m : Line) → passed (i + 1) (length_of m) ≡ passed i (length_of (longer c m))
 passed_more i c missing = refl
-passed_more i c (line l rest) = let e : i + 1 + length l ≡ i + length (c ∷ l) = omega arith in ap Is e
+passed_more i c (line l rest) = let e : i + 1 + length l ≡ i + length (c ∷ l) = omega arith in ap Some e
 
-module _ (s : List ℕ) (i : ℕ) where
-  pub line_step : i < length s → (get_or s i 0 ≡ 10 → ⊥) → passed (i + 1) (length_of (line_of (drop (i + 1) s))) ≡ passed i (length_of (line_of (drop i s)))
-  unfolding line_of
-  line_step h d =
-      let e : passed i (length_of (line_of (drop i s))) ≡ passed i (length_of (longer (get_or s i 0) (line_of (drop (suc i) s)))) = rw (drop-cons s i 0, ne_eqb _ _ d) in
-      ap (λ (k : ℕ). passed (i + 1) (length_of (line_of (drop k s)))) (add-one i) ∙ passed_more i (get_or s i 0) (line_of (drop (suc i) s)) ∙ sym e
+-- the place of the first line feed, where i characters were passed
+line_from : (i : ℕ) (s : List ℕ) → position_from (λ c. eqb c 10) i s ≡ passed i (length_of (line_of s))
+unfolding line_of
+line_from i [] = refl
+line_from i (c ∷ s) = by (eqb c 10) (line_from (i + 1) s)
+  where
+    by : (b : Bool) → position_from (λ x. eqb x 10) (i + 1) s ≡ passed (i + 1) (length_of (line_of s))
+        → cond b (Some i) (position_from (λ x. eqb x 10) (i + 1) s) ≡ passed i (length_of (cond b (line [] s) (longer c (line_of s))))
+    by true ih = ap Some (sym (add-zero i))
+    by false ih = ih ∙ passed_more i c (line_of s)
 
-  pub line_found : i < length s → get_or s i 0 ≡ 10 → Is i ≡ passed i (length_of (line_of (drop i s)))
-  unfolding line_of
-  line_found h d = rw (drop-cons s i 0, eq-eqb _ _ d) (ap Is (sym (add-zero i)))
-
-  pub line_none : length s ≤ i → Missing ≡ passed i (length_of (line_of (drop i s)))
-  unfolding line_of
-  line_none h = rw (drop_of_length-le s h)
-
-pub line_all : (s : List ℕ) → passed 0 (length_of (line_of s)) ≡ length_of (line_of s)
+line_all : (s : List ℕ) → passed 0 (length_of (line_of s)) ≡ length_of (line_of s)
 line_all s = each (length_of (line_of s))
   where
-    each : (a : LineAnswer) → passed 0 a ≡ a
-    each (Is n) = ap Is (zero-add n)
-    each Missing = refl
+    each : (a : Option ℕ) → passed 0 a ≡ a
+    each (Some n) = ap Some (zero-add n)
+    each None = refl
+
+pub line_position : (s : List ℕ) → position (λ c. eqb c 10) s ≡ length_of (line_of s)
+line_position s = position_from-zero (λ c. eqb c 10) s ∙ line_from 0 s ∙ line_all s
 
 -- ---- names
 
@@ -119,23 +118,8 @@ begins_name (c ∷ name) (d ∷ l) e = by (eqb c d) refl e (begins_name name l)
 pub begins_length : (name l : List ℕ) → begins name l ≡ true → length name ≤ length l
 begins_length name l e = omega (arith, ap length (begins_name name l e), length-append name (drop (length name) l))
 
-pub begins_short : (name l : List ℕ) → length l < length name → false ≡ begins name l
-begins_short name l h = by (begins name l) refl
-  where
-    by : (b : Bool) → begins name l ≡ b → false ≡ b
-    by true e = absurd (omega (arith, begins_length name l e))
-    by false e = refl
-
-module _ (name l : List ℕ) (i : ℕ) where
-  module _ (h : i < length name) (k : i < length l) where
-    pub begins_step : get_or name i 0 ≡ get_or l i 0 → begins (drop (i + 1) name) (drop (i + 1) l) ≡ begins (drop i name) (drop i l)
-    unfolding begins
-    begins_step e = rw (add-one i, drop-cons name i 0, drop-cons l i 0, eq-eqb _ _ e)
-
-    pub begins_stop : (get_or name i 0 ≡ get_or l i 0 → ⊥) → false ≡ begins (drop i name) (drop i l)
-    unfolding begins
-    begins_stop d = rw (drop-cons name i 0, drop-cons l i 0, ne_eqb _ _ d)
-
-  pub begins_done : length name ≤ i → true ≡ begins (drop i name) (drop i l)
-  unfolding begins
-  begins_done h = rw (drop_of_length-le name h)
+pub begins_starts : (name l : List ℕ) → starts_with eqb l name ≡ begins name l
+unfolding begins
+begins_starts [] l = refl
+begins_starts (c ∷ name) [] = refl
+begins_starts (c ∷ name) (d ∷ l) = ap (λ (b : Bool). eqb c d && b) (begins_starts name l)

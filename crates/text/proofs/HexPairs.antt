@@ -1,23 +1,26 @@
 -- Hex pairs, taken pair by pair: two digits are a byte, and the others follow.
 -- Assumes nothing.
 use mathlib.Core.Path.{◌≡◌, refl, sym, ap, ◌∙◌}
-use mathlib.Core.Bool.{Bool, true, false, cond}
+use mathlib.Core.Bool.{Bool, true, false, cond, ◌&&◌}
 use mathlib.Core.List.{List, [], ◌∷◌, ◌++◌}
-use Prim.Native.Nat.{ℕ, suc, ◌+◌, ◌-◌, ◌*◌, ◌/◌, ◌%◌, ◌≤◌, ◌<◌}
+use Prim.Native.Nat.{ℕ, zero, suc, ◌+◌, ◌*◌, ◌/◌, ◌%◌, ◌≤◌, ◌<◌}
 use native.Mathlib.Numerals.{add-one}
 use native.Mathlib.Omega.{arith}
 use borrow.Author.Tests.{lt-ltb, le-ltb, ltb-true, ltb-false, le-leb, lt-leb, leb-true}
 use lib.Dec.{ltb, leb}
 use lib.ListN.{length, get_or, set, take, drop, length-append, length-drop, drop_of_length-le}
+use Rattle.std.specs.Prelude.{Option, Some, None}
+use Rattle.std.specs.List.{list_all}
+use Rattle.std.specs.Simd.{first_chunks}
+use native.Mathlib.Nat.{add-zero, zero-add}
 use lib.Seq.{drop-cons, take-append_seam}
+use Rattle.std.proofs.lemmas.Bool.Decides.{nat_tests}
+use Rattle.std.proofs.lemmas.List.{get_or-take, get_or-drop}
 use Rattle.text.specs.Texts.{digit_of}
 use Rattle.text.specs.Written.{over, hex_digit, hex_text}
 use Rattle.text.specs.Pairs.{Pairs, pairs, none, behind, pairs_of, within, are_pairs, bytes_of, Filled, filled, filling, pairs_into}
-use Rattle.text.specs.declared.lines.PairsAnswer.{PairsAnswer}
-use Rattle.text.specs.declared.lines.PairsAnswer.TheVariants.{Is, Bad}
-use Rattle.text.proofs.Digits.{and_false, decimal_digit, lower_digit}
-use Rattle.text.proofs.Hexes.{low_digit, high_digit}
-use Rattle.text.proofs.Over.{over_cons}
+use Rattle.text.proofs.Digits.{and_false}
+use Rattle.text.proofs.Over.{over_none, over_cons, over_front}
 
 empty : pairs_of [] ≡ pairs []
 unfolding pairs_of
@@ -88,96 +91,126 @@ within_length n (pairs a) b e = by (leb (length a) n) refl e
     by true f g = let k : a ≡ b = cc in omega (arith, ap length k, leb-true (length a) n f)
     by false f g = let z : ◌≡◌ {A = ℕ} 0 1 = cc in absurd (omega arith)
 
+-- ---- an even number of digits
+
+abbrev pub is_hex : ℕ → Bool
+is_hex c = ltb (digit_of c) 16
+
+pub pairs_all : (s : List ℕ) → length s % 2 ≡ 0 → list_all is_hex s ≡ are_pairs (pairs_of s)
+unfolding pairs_of
+pairs_all [] e = refl
+pairs_all (h ∷ []) e = absurd (omega arith)
+pairs_all (h ∷ l ∷ s) e = by (is_hex h) (is_hex l) (pairs_all s (omega arith))
+  where
+    by : (a b : Bool) → list_all is_hex s ≡ are_pairs (pairs_of s)
+        → (a && (b && list_all is_hex s)) ≡ are_pairs (cond (a && b) (behind (digit_of h * 16 + digit_of l) (pairs_of s)) none)
+    by true true d = d ∙ sym (are_behind (digit_of h * 16 + digit_of l) (pairs_of s))
+    by true false d = refl
+    by false b d = refl
+
+pub pairs_odd : (s : List ℕ) → 0 < length s % 2 → false ≡ are_pairs (pairs_of s)
+pairs_odd s h = by (are_pairs (pairs_of s)) refl
+  where
+    by : (b : Bool) → are_pairs (pairs_of s) ≡ b → false ≡ b
+    by true e = absurd (omega (arith, even s e))
+    by false e = refl
+
 -- ---- one pair more of a text
 
+-- the two characters of a chunk
+two_at : (k : ℕ) (s : List ℕ) (i j : ℕ) → i < k → j < 2 → get_or (get_or (first_chunks 2 k s) i []) j 0 ≡ get_or s (2 * i + j) 0
+two_at zero s i j h g = absurd (omega arith)
+two_at (suc k) s zero j h g = get_or-take 2 s j 0 g ∙ ap (λ (n : ℕ). get_or s n 0) (sym (zero-add j))
+two_at (suc k) s (suc i) j h g =
+    let e : 2 + (2 * i + j) ≡ 2 * suc i + j = omega arith in
+    two_at k (drop 2 s) i j (omega arith) g ∙ get_or-drop 2 s (2 * i + j) 0 ∙ ap (λ (n : ℕ). get_or s n 0) e
+
 module _ (s : List ℕ) (i : ℕ) where
-  pub pairs_done : length s ≤ i → pairs_of (drop i s) ≡ pairs []
+  two : 2 * i + 1 < length s → drop (2 * i) s ≡ get_or s (2 * i + 0) 0 ∷ get_or s (2 * i + 1) 0 ∷ drop (2 * (i + 1)) s
+  two h =
+      let k : suc (2 * i) < length s = omega arith in
+      let e : 2 * (i + 1) ≡ suc (suc (2 * i)) = omega arith in
+      let m : 2 * i < length s = omega arith in
+      rw (e, add-zero, add-one (2 * i)) (drop-cons s (2 * i) 0 m ∙ ap (λ (t : List ℕ). get_or s (2 * i) 0 ∷ t) (drop-cons s (suc (2 * i)) 0 k))
+
+  done : length s ≤ 2 * i → pairs_of (drop (2 * i) s) ≡ pairs []
   unfolding pairs_of
-  pairs_done h = rw (drop_of_length-le s h)
+  done h = rw (drop_of_length-le s h)
 
-  -- a digit without another
-  pub pairs_odd : i < length s → length s - i < 2 → false ≡ are_pairs (pairs_of (drop i s))
-  unfolding pairs_of
-  pairs_odd h k =
-      let l : length s ≤ suc i = omega arith in
-      rw (drop-cons s i 0, drop_of_length-le s l)
+-- ---- filling an output: the bytes of the pairs in front of the i-th stand in o, those from there on are left
+pub record Filling (s o out : List ℕ) (i : ℕ) : Type 0 where
+  pub pairs : are_pairs (pairs_of (drop (2 * i) s)) ≡ true
+  pub bytes : over o i (bytes_of (pairs_of (drop (2 * i) s))) ≡ over out 0 (bytes_of (pairs_of s))
 
-  module _ (h : i + 1 < length s) where
-    two : drop i s ≡ get_or s i 0 ∷ get_or s (i + 1) 0 ∷ drop (i + 2) s
-    two =
-        let k : suc i < length s = omega arith in
-        let e : i + 2 ≡ suc (suc i) = omega arith in
-        let m : i < length s = omega arith in
-        rw (e, add-one i) (drop-cons s i 0 m ∙ ap (λ (t : List ℕ). get_or s i 0 ∷ t) (drop-cons s (suc i) 0 k))
+module _ (s o out : List ℕ) (i : ℕ) (r : Filling s o out i) where
+  module _ (front : List (List ℕ)) (f : front ≡ first_chunks 2 (length s / 2) s) (k : i < length s / 2) where
+    chunk : List ℕ
+    chunk = get_or front i []
 
-    pub pairs_no_high : 16 ≤ digit_of (get_or s i 0) → false ≡ are_pairs (pairs_of (drop i s))
-    pairs_no_high d = sym (ap (λ (t : List ℕ). are_pairs (pairs_of t)) two ∙ ap are_pairs (high_none (get_or s i 0) (get_or s (i + 1) 0) (drop (i + 2) s) d))
+    next : drop (2 * i) s ≡ get_or chunk 0 0 ∷ get_or chunk 1 0 ∷ drop (2 * (i + 1)) s
+    unfolding chunk
+    next = rw (f, two_at (length s / 2) s i 0 k (omega arith), two_at (length s / 2) s i 1 k (omega arith)) (two s i (omega arith))
 
-    pub pairs_no_low : 16 ≤ digit_of (get_or s (i + 1) 0) → false ≡ are_pairs (pairs_of (drop i s))
-    pairs_no_low d = sym (ap (λ (t : List ℕ). are_pairs (pairs_of t)) two ∙ ap are_pairs (low_none (get_or s i 0) (get_or s (i + 1) 0) (drop (i + 2) s) d))
+    here : are_pairs (pairs_of (get_or chunk 0 0 ∷ get_or chunk 1 0 ∷ drop (2 * (i + 1)) s)) ≡ true
+    here = ap (λ (t : List ℕ). are_pairs (pairs_of t)) (sym next) ∙ r.pairs
 
-    pub pairs_step : digit_of (get_or s i 0) < 16 → digit_of (get_or s (i + 1) 0) < 16 → are_pairs (pairs_of (drop (i + 2) s)) ≡ are_pairs (pairs_of (drop i s))
-    pairs_step u v =
-        sym
-        (ap (λ (t : List ℕ). are_pairs (pairs_of t)) two
-        ∙ ap are_pairs (two_digits (get_or s i 0) (get_or s (i + 1) 0) (drop (i + 2) s) u v)
-        ∙ are_behind (digit_of (get_or s i 0) * 16 + digit_of (get_or s (i + 1) 0)) (pairs_of (drop (i + 2) s)))
+    pub filling_digits : (digit_of (get_or (get_or front i []) 0 0) < 16) × (digit_of (get_or (get_or front i []) 1 0) < 16)
+    unfolding chunk
+    filling_digits = both_digits (get_or chunk 0 0) (get_or chunk 1 0) (drop (2 * (i + 1)) s) here
 
-    -- what is left is pairs: so is what is left behind the next
-    module _ (e : are_pairs (pairs_of (drop i s)) ≡ true) where
-      here : are_pairs (pairs_of (get_or s i 0 ∷ get_or s (i + 1) 0 ∷ drop (i + 2) s)) ≡ true
-      here = ap (λ (t : List ℕ). are_pairs (pairs_of t)) (sym two) ∙ e
-
-      pub pair_digits : (digit_of (get_or s i 0) < 16) × (digit_of (get_or s (i + 1) 0) < 16)
-      pair_digits = both_digits (get_or s i 0) (get_or s (i + 1) 0) (drop (i + 2) s) here
-
-      pub pair_rest : are_pairs (pairs_of (drop (i + 2) s)) ≡ true
-      pair_rest = rest_pairs (get_or s i 0) (get_or s (i + 1) 0) (drop (i + 2) s) here
-
-      pub pair_over : (o : List ℕ) (at u v : ℕ) → u ≡ digit_of (get_or s i 0) → v ≡ digit_of (get_or s (i + 1) 0)
-          → over (set o at (u * 16 + v)) (at + 1) (bytes_of (pairs_of (drop (i + 2) s))) ≡ over o at (bytes_of (pairs_of (drop i s)))
-      pair_over o at u v p q =
-          rw (p, q)
+    pub filling_more : (x : ℕ) → x ≡ digit_of (get_or (get_or front i []) 0 0) * 16 + digit_of (get_or (get_or front i []) 1 0) → Filling s (set o i x) out (i + 1)
+    unfolding chunk
+    filling_more x e = record {
+      pairs = rest_pairs (get_or chunk 0 0) (get_or chunk 1 0) (drop (2 * (i + 1)) s) here;
+      bytes =
+          rw e
           (sym
-          (ap (λ (t : List ℕ). over o at (bytes_of (pairs_of t))) two
-          ∙ ap (over o at) (two_bytes (get_or s i 0) (get_or s (i + 1) 0) (drop (i + 2) s) here)
-          ∙ over_cons o at (digit_of (get_or s i 0) * 16 + digit_of (get_or s (i + 1) 0)) (bytes_of (pairs_of (drop (i + 2) s)))))
+          (ap (λ (t : List ℕ). over o i (bytes_of (pairs_of t))) next
+          ∙ ap (over o i) (two_bytes (get_or chunk 0 0) (get_or chunk 1 0) (drop (2 * (i + 1)) s) here)
+          ∙ over_cons o i (digit_of (get_or chunk 0 0) * 16 + digit_of (get_or chunk 1 0)) (bytes_of (pairs_of (drop (2 * (i + 1)) s))))
+          ∙ r.bytes);
+    }
+
+  pub filling_ends : length s ≤ 2 * i → length (bytes_of (pairs_of s)) ≤ length out → o ≡ bytes_of (pairs_of s) ++ drop (length (bytes_of (pairs_of s))) out
+  filling_ends h l =
+      let d : over o i (bytes_of (pairs_of (drop (2 * i) s))) ≡ o = rw (done s i h) (over_none o i) in
+      sym d ∙ r.bytes ∙ over_front out (bytes_of (pairs_of s)) l
 
 -- ---- the output
 
-pub into_none : (p : Pairs) (out : List ℕ) → are_pairs p ≡ false → filled Bad out ≡ pairs_into p out
+pub into_none : (p : Pairs) (out : List ℕ) → are_pairs p ≡ false → filled None out ≡ pairs_into p out
 unfolding pairs_into within
 into_none none out e = refl
 into_none (pairs b) out e = let z : ◌≡◌ {A = ℕ} 0 1 = cc in absurd (omega arith)
 
-pub into_short : (p : Pairs) (out : List ℕ) → are_pairs p ≡ true → length out < length (bytes_of p) → filled Bad out ≡ pairs_into p out
+pub into_short : (p : Pairs) (out : List ℕ) → are_pairs p ≡ true → length out < length (bytes_of p) → filled None out ≡ pairs_into p out
 unfolding pairs_into within
 into_short none out e h = refl
 into_short (pairs b) out e h = rw (lt-leb (length b) (length out) h)
 
 pub into_held : (p : Pairs) (out o : List ℕ) (n : ℕ) → are_pairs p ≡ true → length (bytes_of p) ≤ length out → n ≡ length (bytes_of p)
-    → o ≡ bytes_of p ++ drop (length (bytes_of p)) out → filled (Is n) o ≡ pairs_into p out
+    → o ≡ bytes_of p ++ drop (length (bytes_of p)) out → filled (Some n) o ≡ pairs_into p out
 unfolding pairs_into within
 into_held none out o n e h f g = let z : ◌≡◌ {A = ℕ} 0 1 = cc in absurd (omega arith)
 into_held (pairs b) out o n e h f g = rw (le-leb (length b) (length out) h, f, g)
 
 -- what the answer says of the text
-module _ (s out o : List ℕ) (r : PairsAnswer) (e : filled r o ≡ pairs_into (pairs_of s) out) where
-  is_pairs : (q : Pairs) → within (length out) (pairs_of s) ≡ q → filled r o ≡ filling q out → (n : ℕ) → r ≡ Is n → (q ≡ pairs (take n o)) × (n ≤ length o)
+module _ (s out o : List ℕ) (r : Option ℕ) (e : filled r o ≡ pairs_into (pairs_of s) out) where
+  is_pairs : (q : Pairs) → within (length out) (pairs_of s) ≡ q → filled r o ≡ filling q out → (n : ℕ) → r ≡ Some n → (q ≡ pairs (take n o)) × (n ≤ length o)
   is_pairs none k f n g =
-      let a : r ≡ Bad = ap (λ (x : Filled). x.answer) f in
+      let a : r ≡ None = ap (λ (x : Filled). x.answer) f in
       let z : ◌≡◌ {A = ℕ} 0 1 = cc in absurd (omega arith)
   is_pairs (pairs b) k f n g =
-      let a : r ≡ Is (length b) = ap (λ (x : Filled). x.answer) f in
+      let a : r ≡ Some (length b) = ap (λ (x : Filled). x.answer) f in
       let m : n ≡ length b = cc in
       let c : o ≡ b ++ drop (length b) out = ap (λ (x : Filled). x.out) f in
       let t : take n o ≡ b = rw (m, c) (take-append_seam b (drop (length b) out)) in
       (ap pairs (sym t), omega (arith, ap length c, length-append b (drop (length b) out)))
 
-  is_bad : (q : Pairs) → filled r o ≡ filling q out → r ≡ Bad → (q ≡ none) × (o ≡ out)
+  is_bad : (q : Pairs) → filled r o ≡ filling q out → r ≡ None → (q ≡ none) × (o ≡ out)
   is_bad none f g = (refl, ap (λ (x : Filled). x.out) f)
   is_bad (pairs b) f g =
-      let a : r ≡ Is (length b) = ap (λ (x : Filled). x.answer) f in
+      let a : r ≡ Some (length b) = ap (λ (x : Filled). x.answer) f in
       let z : ◌≡◌ {A = ℕ} 0 1 = cc in absurd (omega arith)
 
   whole : (q : Pairs) → within (length out) (pairs_of s) ≡ q → filled r o ≡ filling q out → length o ≡ length out
@@ -190,16 +223,16 @@ module _ (s out o : List ℕ) (r : PairsAnswer) (e : filled r o ≡ pairs_into (
   unfolding pairs_into
   made = e
 
-  pub pairs_is : (n : ℕ) → r ≡ Is n → within (length out) (pairs_of s) ≡ pairs (take n o)
+  pub pairs_is : (n : ℕ) → r ≡ Some n → within (length out) (pairs_of s) ≡ pairs (take n o)
   pairs_is n f = (is_pairs (within (length out) (pairs_of s)) refl made n f).0
 
-  pub pairs_room : (n : ℕ) → r ≡ Is n → n ≤ length o
+  pub pairs_room : (n : ℕ) → r ≡ Some n → n ≤ length o
   pairs_room n f = (is_pairs (within (length out) (pairs_of s)) refl made n f).1
 
-  pub pairs_bad : r ≡ Bad → within (length out) (pairs_of s) ≡ none
+  pub pairs_bad : r ≡ None → within (length out) (pairs_of s) ≡ none
   pairs_bad f = (is_bad (within (length out) (pairs_of s)) made f).0
 
-  pub pairs_kept : r ≡ Bad → o ≡ out
+  pub pairs_kept : r ≡ None → o ≡ out
   pairs_kept f = (is_bad (within (length out) (pairs_of s)) made f).1
 
   pub pairs_output : length o ≡ length out
@@ -208,17 +241,8 @@ module _ (s out o : List ℕ) (r : PairsAnswer) (e : filled r o ≡ pairs_into (
 -- ---- written bytes read as themselves
 
 written_hex : (d : ℕ) → d < 16 → digit_of (hex_digit d) ≡ d
-written_hex d h = by (ltb d 10) refl
-  where
-    by : (b : Bool) → ltb d 10 ≡ b → digit_of (hex_digit d) ≡ d
-    by true f =
-        let l = ltb-true d 10 f in
-        let e : 48 + d - 48 ≡ d = omega arith in
-        rw (← low_digit d l) (sym (decimal_digit (48 + d) (omega arith) (omega arith)) ∙ e)
-    by false f =
-        let l = ltb-false d 10 f in
-        let e : 87 + d - 87 ≡ d = omega arith in
-        rw (← high_digit d l) (sym (lower_digit (87 + d) (omega arith) (omega arith) (omega arith) (omega arith) (omega arith) (omega arith)) ∙ e)
+unfolding digit_of hex_digit
+written_hex d h = grind (arith, nat_tests)
 
 pub hex_read : (b : List ℕ) → ((i : ℕ) → get_or b i 0 < 256) → pairs_of (hex_text b) ≡ pairs b
 unfolding hex_text

@@ -1,11 +1,10 @@
 -- Hex in lower case: two digits a byte, and byte after byte.
 -- Assumes nothing.
 use mathlib.Core.Path.{◌≡◌, refl, sym, ap, ◌∙◌}
-use mathlib.Core.List.{List, [], ◌∷◌, ◌++◌}
+use mathlib.Core.List.{List, [], ◌∷◌}
 use Prim.Native.Nat.{ℕ, suc, ◌+◌, ◌*◌, ◌/◌, ◌%◌, ◌≤◌, ◌<◌}
 use native.Mathlib.Numerals.{add-one}
 use native.Mathlib.Omega.{arith}
-use borrow.Author.Tests.{lt-ltb, le-ltb}
 use lib.ListN.{length, get_or, set, drop, length-set, drop_of_length-le}
 use lib.Seq.{drop-cons}
 use Rattle.text.specs.Written.{over, hex_digit, hex_text}
@@ -15,20 +14,6 @@ pub hex_length : (b : List ℕ) → length (hex_text b) ≡ 2 * length b
 unfolding hex_text
 hex_length [] = refl
 hex_length (x ∷ b) = let e = hex_length b in omega arith
-
-pub hex_append : (a b : List ℕ) → hex_text (a ++ b) ≡ hex_text a ++ hex_text b
-unfolding hex_text
-hex_append [] b = refl
-hex_append (x ∷ a) b = ap (λ (t : List ℕ). hex_digit (x / 16) ∷ hex_digit (x % 16) ∷ t) (hex_append a b)
-
--- ---- a digit
-pub low_digit : (d : ℕ) → d < 10 → 48 + d ≡ hex_digit d
-unfolding hex_digit
-low_digit d h = simp (lt-ltb _ _ h)
-
-pub high_digit : (d : ℕ) → 10 ≤ d → 87 + d ≡ hex_digit d
-unfolding hex_digit
-high_digit d h = simp (le-ltb _ _ h)
 
 -- ---- one byte more of a list, written over an output
 module _ (o : List ℕ) (at : ℕ) (b : List ℕ) (i : ℕ) where

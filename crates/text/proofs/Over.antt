@@ -1,13 +1,18 @@
 -- Bytes written over an output: it stays as long as it is, one piece goes behind the other, and past its end nothing is written.
 -- Assumes nothing.
+use mathlib.Core.Bool.{Bool, true, false}
 use mathlib.Core.Path.{◌≡◌, refl, sym, ap, ◌∙◌}
 use mathlib.Core.List.{List, [], ◌∷◌, ◌++◌}
-use Prim.Native.Nat.{ℕ, suc, ◌+◌, ◌≤◌, ◌<◌}
+use Prim.Native.Nat.{ℕ, ◌+◌, ◌-◌, ◌≤◌, min}
 use native.Mathlib.Nat.{add-zero, zero-add}
 use native.Mathlib.Numerals.{add-one}
 use native.Mathlib.Omega.{arith}
-use lib.ListN.{length, get_or, set, take, drop, length-set, length-append, drop_of_length-le}
-use lib.Seq.{sets, sets-eq, set_out, drop-cons, take_at, length-take-le}
+use borrow.Author.Tests.{leb-true, leb-false}
+use borrow.Rule.Slice.PartMut.{put_mid}
+use lib.Dec.{leb}
+use lib.ListN.{length, set, take, drop, length-set, drop_of_length-le}
+use lib.Seq.{sets, sets-eq, set_out, length-take-le}
+use Rattle.std.proofs.Common.{take-append-drop, drop-drop, append_assoc}
 use Rattle.text.specs.Written.{over}
 
 pub over_none : (o : List ℕ) (at : ℕ) → over o at [] ≡ o
@@ -24,10 +29,6 @@ over_append o at [] b = ap (λ (k : ℕ). over o k b) (sym (add-zero at))
 over_append o at (x ∷ a) b =
     let e : at + 1 + length a ≡ at + length (x ∷ a) = omega arith in
     over_append (set o at x) (at + 1) a b ∙ ap (λ (k : ℕ). over (over (set o at x) (at + 1) a) k b) e
-
--- what is put behind a piece that was put: t is the output after the first, p the place behind it
-pub over_then : (o t : List ℕ) (at p : ℕ) (a b : List ℕ) → t ≡ over o at a → p ≡ at + length a → over t p b ≡ over o at (a ++ b)
-over_then o t at p a b e f = rw (e, f) (sym (over_append o at a b))
 
 pub over_length : (o : List ℕ) (at : ℕ) (b : List ℕ) → length (over o at b) ≡ length o
 unfolding over
@@ -50,19 +51,29 @@ module _ (o : List ℕ) (at : ℕ) (b : List ℕ) (h : at + length b ≤ length 
   pub over_inside : over o at b ≡ take at o ++ b ++ drop (at + length b) o
   over_inside = over_sets o at b ∙ sets-eq b o at h
 
-  -- what is written so far, and the bytes behind it
-  pub over_taken : take (at + length b) (over o at b) ≡ take at o ++ b
-  over_taken =
-      let l : length (take at o) ≡ at = length-take-le at o (omega arith) in
-      ap (take (at + length b)) over_inside ∙ take_at (take at o ++ b) (drop (at + length b) o) (at + length b) (length-append (take at o) b ∙ ap (λ (k : ℕ). k + length b) l)
-
 pub over_front : (o b : List ℕ) → length b ≤ length o → over o 0 b ≡ b ++ drop (length b) o
 over_front o b h = over_inside o 0 b (omega arith) ∙ ap (λ (k : ℕ). b ++ drop k o) (zero-add (length b))
 
--- ---- one byte more of a list
-module _ (o : List ℕ) (at : ℕ) (b : List ℕ) (i : ℕ) where
-  pub over_step : i < length b → over o at (drop i b) ≡ over (set o at (get_or b i 0)) (at + 1) (drop (i + 1) b)
-  over_step h = rw (add-one i, drop-cons b i 0) (over_cons o at (get_or b i 0) (drop (suc i) b))
+-- ---- a copy of what the output has room for
 
-  pub over_done : length b ≤ i → over o at (drop i b) ≡ o
-  over_done h = ap (over o at) (drop_of_length-le b h) ∙ over_none o at
+module _ (o : List ℕ) (at : ℕ) (b : List ℕ) (n : ℕ) (e : n ≡ min (length b) (length o - at)) (h : at ≤ length o) where
+  over_cut : over o at b ≡ over o at (take n b)
+  over_cut = ap (over o at) (sym (take-append-drop n b)) ∙ over_append o at (take n b) (drop n b) ∙ by (leb (length b) n) refl
+    where
+      by : (t : Bool) → leb (length b) n ≡ t → over (over o at (take n b)) (at + length (take n b)) (drop n b) ≡ over o at (take n b)
+      by true f =
+          let l = leb-true (length b) n f in
+          rw (drop_of_length-le b l) (over_none (over o at (take n b)) (at + length (take n b)))
+      by false f =
+          let l = leb-false (length b) n f in
+          let m : length (take n b) ≡ n = length-take-le n b (omega arith) in
+          over_past (over o at (take n b)) (at + length (take n b)) (drop n b) (omega (arith, over_length o at (take n b)))
+
+  pub over_copy : (k : ℕ) (ys : List ℕ) → k ≡ n → ys ≡ take n b → put_mid at k o ys ≡ over o at b
+  over_copy k ys f g =
+      let m : length (take n b) ≡ n = length-take-le n b (omega arith) in
+      rw (f, g) (sym
+      (over_cut
+      ∙ over_inside o at (take n b) (omega arith)
+      ∙ append_assoc (take at o) (take n b) (drop (at + length (take n b)) o)
+      ∙ ap (λ (t : List ℕ). take at o ++ (take n b ++ t)) (ap (λ (i : ℕ). drop (at + i) o) m ∙ sym (drop-drop n at o))))

@@ -1,9 +1,7 @@
 -- Bytes written as hex pairs. Document 01, "Script program": "hex pairs of either case (at most 256 bytes)".
 -- Assumes nothing.
-use Rattle.std.specs.Prelude.{ℕ, ◌+◌, ◌*◌, Bool, true, false, cond, ◌&&◌, List, [], ◌∷◌, ◌++◌, ltb, leb, length, drop}
+use Rattle.std.specs.Prelude.{ℕ, ◌+◌, ◌*◌, Bool, true, false, cond, ◌&&◌, Option, Some, None, List, [], ◌∷◌, ◌++◌, ltb, leb, length, drop}
 use Rattle.text.specs.Texts.{digit_of}
-use Rattle.text.specs.declared.lines.PairsAnswer.{PairsAnswer}
-use Rattle.text.specs.declared.lines.PairsAnswer.TheVariants.{Is, Bad}
 
 pub data Pairs : Type 0 where
   pairs : List ℕ → Pairs
@@ -35,16 +33,16 @@ bytes_of none = []
 
 -- the answer, and what the output holds after
 pub record Filled : Type 0 where
-  pub answer : PairsAnswer
+  pub answer : Option ℕ
   pub out : List ℕ
 
-abbrev pub filled : PairsAnswer → List ℕ → Filled
+abbrev pub filled : Option ℕ → List ℕ → Filled
 filled a out = record { answer = a; out = out }
 
 -- bytes at the front of an output, which keeps what it has behind them
 abbrev pub filling : Pairs → List ℕ → Filled
-filling (pairs b) out = filled (Is (length b)) (b ++ drop (length b) out)
-filling none out = filled Bad out
+filling (pairs b) out = filled (Some (length b)) (b ++ drop (length b) out)
+filling none out = filled None out
 
 -- the bytes that the output holds; where it is too short, as where there are none
 unfoldable pub pairs_into : Pairs → List ℕ → Filled

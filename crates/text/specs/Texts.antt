@@ -1,9 +1,7 @@
 -- The number that a text of digits says. Document 01, "Conversions": "leading zeros are free; no digit, another character or a number over
 -- 2^64 − 1 is 1"; "Script program": "decimal Integer (leading zeros free)".
 -- Assumes nothing.
-use Rattle.std.specs.Prelude.{ℕ, ◌+◌, ◌-◌, ◌*◌, ◌^◌, Bool, true, cond, ◌&&◌, List, [], ◌∷◌, ltb, length}
-use Rattle.text.specs.declared.Number.{Number}
-use Rattle.text.specs.declared.Number.TheVariants.{Is, Bad}
+use Rattle.std.specs.Prelude.{ℕ, ◌+◌, ◌-◌, ◌*◌, ◌^◌, Bool, true, cond, ◌&&◌, Option, Some, None, List, [], ◌∷◌, ltb, length}
 
 -- a character as a digit: 0 to 9, A to F, a to f; 255 for any other
 unfoldable pub digit_of : ℕ → ℕ
@@ -26,5 +24,5 @@ value_from b acc [] = acc
 value_from b acc (c ∷ s) = value_from b (acc * b + digit_of c) s
 
 -- at least one digit, no other character, and a number of 64 bits
-unfoldable pub number_of : ℕ → List ℕ → Number
-number_of b s = cond (ltb 0 (length s) && (all_digits b s && ltb (value_from b 0 s) (2 ^ 64))) (Is (value_from b 0 s)) Bad
+unfoldable pub number_of : ℕ → List ℕ → Option ℕ
+number_of b s = cond (ltb 0 (length s) && (all_digits b s && ltb (value_from b 0 s) (2 ^ 64))) (Some (value_from b 0 s)) None

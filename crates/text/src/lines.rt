@@ -1,99 +1,53 @@
 // What a line-oriented program reads: lines, the names they begin with, hex pairs.
-ghost use Rattle.std.specs.Prelude.{◌≡◌, true, ◌++◌, ◌≤◌, ◌*◌, length, drop};
+ghost use Rattle.std.specs.Prelude.{◌≡◌, ◌+◌, ◌*◌, ◌<◌};
 ghost use Rattle.text.specs.Lines.{line_of, length_of, begins};
-ghost use Rattle.text.specs.Pairs.{pairs_of, are_pairs, bytes_of, filled, pairs_into};
+ghost use Rattle.text.specs.Pairs.{pairs_of, are_pairs, filled, pairs_into};
+ghost use Rattle.text.specs.Texts.{digit_of};
 
 use crate::digit;
 
-// The length of a line without its line feed.
-#[derive(Clone, Copy)]
-pub enum LineAnswer {
-    Is(usize),
-    Missing,
-}
-
-// How many bytes of the output hex pairs take.
-#[derive(Clone, Copy)]
-pub enum PairsAnswer {
-    Is(usize),
-    Bad,
-}
-
-// How long is the first line? Missing where no line feed ends it.
-pub fn line_length(s: &[u8]) -> LineAnswer
+// How long is the first line, without its line feed? None where no line feed ends it.
+pub fn line_length(s: &[u8]) -> Option<usize>
     ensures { result ≡ length_of (line_of s.now) }
 {
-    let mut i: usize = 0;
-    while i < s.len() {
-        if s[i] == 10 {
-            return LineAnswer::Is(i);
-        }
-        i += 1;
-    }
-    LineAnswer::Missing
+    s.iter().position(|c| *c == b'\n')
 }
 
+#[tactic(auto, using(crate::proofs::FirstLines::begins_starts))]
 pub fn begins_with(line: &[u8], name: &[u8]) -> bool
     ensures { result ≡ begins name.now line.now }
 {
-    if line.len() < name.len() {
-        return false;
-    }
-    let mut i: usize = 0;
-    while i < name.len() {
-        if name[i] != line[i] {
-            return false;
-        }
-        i += 1;
-    }
-    true
+    line.starts_with(name)
+}
+
+// The byte that two digits say, the higher first. There is no other character: a way out by `?` was tried, and is four times as slow.
+fn pair_byte(high: u8, low: u8) -> u8
+    requires { (digit_of high < 16) × (digit_of low < 16) }
+    ensures { result ≡ digit_of high * 16 + digit_of low }
+{
+    digit(high).unwrap_or(0) * 16 + digit(low).unwrap_or(0)
 }
 
 fn are_pairs(s: &[u8]) -> bool
     ensures { result ≡ are_pairs (pairs_of s.now) }
 {
-    let mut i: usize = 0;
-    while i < s.len() {
-        if s.len() - i < 2 {
-            return false;
-        }
-        if 16 <= digit(s[i]) {
-            return false;
-        }
-        if 16 <= digit(s[i + 1]) {
-            return false;
-        }
-        i += 2;
-    }
-    true
+    s.len() % 2 == 0 && s.iter().all(|c| digit(*c).is_some())
 }
 
-fn fill_pairs(s: &[u8], out: &mut [u8])
-    requires { (are_pairs (pairs_of s.now) ≡ true) × (length s.now ≤ 2 * length out.old) }
-    ensures { out.new ≡ bytes_of (pairs_of s.now) ++ drop (length (bytes_of (pairs_of s.now))) out.old }
-{
-    let mut i: usize = 0;
-    let mut p: usize = 0;
-    while i < s.len() {
-        let high = digit(s[i]);
-        let low = digit(s[i + 1]);
-        out[p] = (high * 16 + low) as u8;
-        i += 2;
-        p += 1;
-    }
-}
-
-// The bytes that hex pairs say, to the front of the output. Bad where they are no hex pairs, or more than the output holds: it is then as it was.
-pub fn pairs(s: &[u8], out: &mut [u8]) -> PairsAnswer
+// The bytes that hex pairs say, to the front of the output; how many they are. None where they are no hex pairs, or more than the output holds: it is then as it was.
+pub fn pairs(s: &[u8], out: &mut [u8]) -> Option<usize>
     ensures { filled result out.new ≡ pairs_into (pairs_of s.now) out.old }
 {
     if !are_pairs(s) {
-        return PairsAnswer::Bad;
+        return None;
     }
-    let n = s.len() / 2;
-    if out.len() < n {
-        return PairsAnswer::Bad;
+    let (pairs, _) = s.as_chunks::<2>();
+    if out.len() < pairs.len() {
+        return None;
     }
-    fill_pairs(s, out);
-    PairsAnswer::Is(n)
+    // By place: after an `iter_mut` in a `zip`, a proof knows nothing of the bytes.
+    for (i, pair) in pairs.iter().enumerate() {
+        out[i] = pair_byte(pair[0], pair[1]);
+    }
+    Some(pairs.len())
 }

@@ -1,3 +1,4 @@
 pub mod Values
+pub mod Spaces
 pub mod Flags
 pub mod Refusals

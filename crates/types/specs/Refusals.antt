@@ -1,12 +1,10 @@
 -- Document 01, "Refusal numbers": the number of each refusal and the types it carries; the first check that holds gives the refusal.
 -- Assumes nothing.
-use Rattle.std.specs.Prelude.{ℕ, Bool, cond, List, [], ◌∷◌}
+use Rattle.std.specs.Prelude.{ℕ, Bool, cond, List, [], ◌∷◌, ⊤, Result, Ok, Err}
 use Rattle.types.specs.declared.refusal.Refusal.{Refusal}
 use Rattle.types.specs.declared.refusal.Refusal.TheVariants as R
 use Rattle.types.specs.declared.refusal.Types.{Types}
 use Rattle.types.specs.declared.refusal.Types.TheVariants as T
-use Rattle.types.specs.declared.refusal.Outcome.{Outcome}
-use Rattle.types.specs.declared.refusal.Outcome.TheVariants as O
 
 abbrev pub number_of : Refusal → ℕ
 number_of (R.IncompatibleValueConversion a b) = 1
@@ -65,11 +63,11 @@ types_of R.MalformedJob = T.Nothing
 abbrev pub Checks : Type 0
 Checks = List (Bool × Refusal)
 
-unfoldable pub first_of : Checks → Outcome
-first_of [] = O.Done
-first_of (c ∷ cs) = cond c.0 (O.Refused c.1) (first_of cs)
+unfoldable pub first_of : Checks → Result ⊤ Refusal
+first_of [] = Ok tt
+first_of (c ∷ cs) = cond c.0 (Err c.1) (first_of cs)
 
 -- what is answered where no check holds, and where one does
-abbrev pub judged : {A : Type 0} → Outcome → A → (Refusal → A) → A
-judged O.Done a f = a
-judged (O.Refused r) a f = f r
+abbrev pub judged : {A : Type 0} → Result ⊤ Refusal → A → (Refusal → A) → A
+judged (Ok tt) a f = a
+judged (Err r) a f = f r

@@ -24,26 +24,8 @@ pub enum FieldUpdateRule {
 #[derive(Clone, Copy)]
 pub struct FieldFlags(pub u8);
 
-#[derive(Clone, Copy)]
-pub enum AccessTypeAnswer {
-    Is(FieldAccessType),
-    Refused(Refusal),
-}
-
-#[derive(Clone, Copy)]
-pub enum UpdateRuleAnswer {
-    Is(FieldUpdateRule),
-    Refused(Refusal),
-}
-
-// The access width in bits for each of the sixteen access types; 0 where there is none.
+// The access width in bits for each of the sixteen access types; 0 where there is none, as the definition access_width has it.
 const WIDTHS: [u8; 16] = [8, 8, 16, 32, 64, 8, 0, 0, 0, 0, 0, 0, 0, 0, 0, 0];
-
-fn wide(x: u8) -> u64
-    ensures { result ≡ x }
-{
-    x as u64
-}
 
 impl FieldFlags {
     pub fn new(value: u8) -> FieldFlags
@@ -52,18 +34,19 @@ impl FieldFlags {
         FieldFlags(value)
     }
 
-    pub fn access_type(self) -> AccessTypeAnswer
+    #[tactic(auto, unfolding(crate::specs::Flags::access_type))]
+    pub fn access_type(self) -> Result<FieldAccessType, Refusal>
         ensures { result ≡ access_type self.0 }
     {
         let access = self.0 % 16;
         match access {
-            0 => AccessTypeAnswer::Is(FieldAccessType::Any),
-            1 => AccessTypeAnswer::Is(FieldAccessType::Byte),
-            2 => AccessTypeAnswer::Is(FieldAccessType::Word),
-            3 => AccessTypeAnswer::Is(FieldAccessType::DWord),
-            4 => AccessTypeAnswer::Is(FieldAccessType::QWord),
-            5 => AccessTypeAnswer::Is(FieldAccessType::Buffer),
-            _ => AccessTypeAnswer::Refused(Refusal::InvalidFieldFlags),
+            0 => Ok(FieldAccessType::Any),
+            1 => Ok(FieldAccessType::Byte),
+            2 => Ok(FieldAccessType::Word),
+            3 => Ok(FieldAccessType::DWord),
+            4 => Ok(FieldAccessType::QWord),
+            5 => Ok(FieldAccessType::Buffer),
+            _ => Err(Refusal::InvalidFieldFlags),
         }
     }
 
@@ -73,15 +56,16 @@ impl FieldFlags {
         self.0 / 16 % 2 == 1
     }
 
-    pub fn field_update_rule(self) -> UpdateRuleAnswer
+    #[tactic(auto, unfolding(crate::specs::Flags::update_rule))]
+    pub fn field_update_rule(self) -> Result<FieldUpdateRule, Refusal>
         ensures { result ≡ update_rule self.0 }
     {
         let rule = self.0 / 32 % 4;
         match rule {
-            0 => UpdateRuleAnswer::Is(FieldUpdateRule::Preserve),
-            1 => UpdateRuleAnswer::Is(FieldUpdateRule::WriteAsOnes),
-            2 => UpdateRuleAnswer::Is(FieldUpdateRule::WriteAsZeros),
-            _ => UpdateRuleAnswer::Refused(Refusal::InvalidFieldFlags),
+            0 => Ok(FieldUpdateRule::Preserve),
+            1 => Ok(FieldUpdateRule::WriteAsOnes),
+            2 => Ok(FieldUpdateRule::WriteAsZeros),
+            _ => Err(Refusal::InvalidFieldFlags),
         }
     }
 
@@ -90,6 +74,6 @@ impl FieldFlags {
         ensures { result ≡ access_width self.0 }
     {
         let access = (self.0 % 16) as usize;
-        wide(WIDTHS[access])
+        u64::from(WIDTHS[access])
     }
 }

@@ -40,49 +40,45 @@ pub enum Types {
     Conversion { current: AmlType, target: AmlType },
 }
 
-// What a call that gives no value answers.
-#[derive(Clone, Copy)]
-pub enum Outcome {
-    Done,
-    Refused(Refusal),
-}
-
 // Document 01's number of a refusal.
-pub fn number(r: Refusal) -> u8
-    ensures { result ≡ number_of r }
-{
-    match r {
-        Refusal::IncompatibleValueConversion {
-            current: _,
-            target: _,
-        } => 1,
-        Refusal::BufferFieldIndexesOutOfBounds => 2,
-        Refusal::TypeCannotBeWrittenToBufferField(_) => 3,
-        Refusal::TypeCannotBeCompared(_) => 4,
-        Refusal::TypeCannotBeSliced(_) => 5,
-        Refusal::ResourceDescriptorTooShort => 6,
-        Refusal::InvalidShiftLeft => 7,
-        Refusal::InvalidShiftRight => 8,
-        Refusal::InvalidFieldFlags => 9,
-        Refusal::InvalidStatusObject => 10,
-        Refusal::MalformedBuffer => 11,
-        Refusal::OutputTooShort => 20,
-        Refusal::FieldUnitLength => 21,
-        Refusal::FieldUnitOutsideRegion => 22,
-        Refusal::LockHeld => 23,
-        Refusal::NoSuchTask => 24,
-        Refusal::TaskBusy => 25,
-        Refusal::TaskIdle => 26,
-        Refusal::TooManyBytes => 27,
-        Refusal::UnsupportedRegionSpace => 28,
-        Refusal::QWordAccessInSpace => 29,
-        Refusal::RegionLengthDiffers => 30,
-        Refusal::MalformedTable => 31,
-        Refusal::MalformedJob => 40,
+impl From<Refusal> for u8 {
+    ghost from_gives = { λ r n. n ≡ number_of r };
+
+    fn from(r: Refusal) -> u8 {
+        match r {
+            Refusal::IncompatibleValueConversion {
+                current: _,
+                target: _,
+            } => 1,
+            Refusal::BufferFieldIndexesOutOfBounds => 2,
+            Refusal::TypeCannotBeWrittenToBufferField(_) => 3,
+            Refusal::TypeCannotBeCompared(_) => 4,
+            Refusal::TypeCannotBeSliced(_) => 5,
+            Refusal::ResourceDescriptorTooShort => 6,
+            Refusal::InvalidShiftLeft => 7,
+            Refusal::InvalidShiftRight => 8,
+            Refusal::InvalidFieldFlags => 9,
+            Refusal::InvalidStatusObject => 10,
+            Refusal::MalformedBuffer => 11,
+            Refusal::OutputTooShort => 20,
+            Refusal::FieldUnitLength => 21,
+            Refusal::FieldUnitOutsideRegion => 22,
+            Refusal::LockHeld => 23,
+            Refusal::NoSuchTask => 24,
+            Refusal::TaskBusy => 25,
+            Refusal::TaskIdle => 26,
+            Refusal::TooManyBytes => 27,
+            Refusal::UnsupportedRegionSpace => 28,
+            Refusal::QWordAccessInSpace => 29,
+            Refusal::RegionLengthDiffers => 30,
+            Refusal::MalformedTable => 31,
+            Refusal::MalformedJob => 40,
+        }
     }
 }
 
 // 1 carries the present and the wanted type; 3, 4 and 5 the type met.
+#[tactic(auto, using(crate::proofs::Carried::carries_nothing))]
 pub fn types_of(r: Refusal) -> Types
     ensures { result ≡ types_of r }
 {

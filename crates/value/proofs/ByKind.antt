@@ -17,23 +17,22 @@ use Rattle.types.specs.declared.value.FieldUnit.{FieldUnit}
 use Rattle.types.specs.contracts.value.AmlValue.{the_type}
 use Rattle.value.specs.Conversions.{Held, boolean, integer, string, buffer, buffer_field, field_unit, kind, held_by, truth_number, buffer_number, buffer_field_content, field_unit_content, no, content_integer, to_integer, to_bool, these, none, content_buffer, to_buffer, content_string, to_string, same_type}
 use Rattle.value.specs.Integers.{text_answer, text_number, parsed}
-use Rattle.value.specs.declared.convert.IntegerAnswer.TheVariants as IA
-use Rattle.value.specs.declared.convert.BoolAnswer.TheVariants as BA
+use Rattle.std.specs.Prelude.{Ok, Err}
 
 -- ---- to integer
-pub integer_of_boolean : (b : Bool) → to_integer (boolean b) ≡ IA.Integer (truth_number b)
+pub integer_of_boolean : (b : Bool) → to_integer (boolean b) ≡ Ok (truth_number b)
 unfolding to_integer
 integer_of_boolean b = refl
 
-pub integer_of_integer : (n : ℕ) → to_integer (integer n) ≡ IA.Integer n
+pub integer_of_integer : (n : ℕ) → to_integer (integer n) ≡ Ok n
 unfolding to_integer
 integer_of_integer n = refl
 
-pub integer_of_string : (s : List ℕ) → to_integer (string s) ≡ IA.Refused (no T.String T.Integer)
+pub integer_of_string : (s : List ℕ) → to_integer (string s) ≡ Err (no T.String T.Integer)
 unfolding to_integer
 integer_of_string s = refl
 
-pub integer_of_buffer : (s : List ℕ) → to_integer (buffer s) ≡ IA.Integer (buffer_number s)
+pub integer_of_buffer : (s : List ℕ) → to_integer (buffer s) ≡ Ok (buffer_number s)
 unfolding to_integer
 integer_of_buffer s = refl
 
@@ -45,16 +44,16 @@ pub integer_of_field_unit : (f : FieldUnit) (s : List ℕ) → to_integer (field
 unfolding to_integer
 integer_of_field_unit f s = refl
 
-pub integer_of_kind : (t : AmlType) → to_integer (kind t) ≡ IA.Refused (no t T.Integer)
+pub integer_of_kind : (t : AmlType) → to_integer (kind t) ≡ Err (no t T.Integer)
 unfolding to_integer
 integer_of_kind t = refl
 
 -- ---- to bool
-pub bool_of_boolean : (b : Bool) → to_bool (boolean b) ≡ BA.Bool b
+pub bool_of_boolean : (b : Bool) → to_bool (boolean b) ≡ Ok b
 unfolding to_bool
 bool_of_boolean b = refl
 
-pub bool_of_integer : (n : ℕ) → to_bool (integer n) ≡ BA.Bool (not (eqb n 0))
+pub bool_of_integer : (n : ℕ) → to_bool (integer n) ≡ Ok (not (eqb n 0))
 unfolding to_bool
 bool_of_integer n = refl
 
@@ -117,7 +116,7 @@ unfolding to_string
 string_of_kind t = refl
 
 -- ---- ToInteger
-pub parsed_integer : (n : ℕ) → parsed (integer n) ≡ IA.Integer n
+pub parsed_integer : (n : ℕ) → parsed (integer n) ≡ Ok n
 unfolding parsed
 parsed_integer n = refl
 
@@ -125,7 +124,7 @@ pub parsed_string : (s : List ℕ) → parsed (string s) ≡ text_answer (text_n
 unfolding parsed
 parsed_string s = refl
 
-pub parsed_buffer : (s : List ℕ) → parsed (buffer s) ≡ IA.Integer (buffer_number s)
+pub parsed_buffer : (s : List ℕ) → parsed (buffer s) ≡ Ok (buffer_number s)
 unfolding parsed
 parsed_buffer s = refl
 
@@ -195,17 +194,17 @@ abbrev pub not_parsed : List ℕ
 not_parsed = 0 ∷ 4 ∷ 5 ∷ 6 ∷ 7 ∷ 8 ∷ 9 ∷ 10 ∷ 11 ∷ 12 ∷ 13 ∷ []
 
 module _ (v : AmlValue) (s : List ℕ) where
-  pub no_integer_lem : OneOf unread (tag_of the_type v) → same_type (type_of v) T.Integer ≡ false → to_integer (held_by v s) ≡ IA.Refused (no (type_of v) T.Integer)
+  pub no_integer_lem : OneOf unread (tag_of the_type v) → same_type (type_of v) T.Integer ≡ false → to_integer (held_by v s) ≡ Err (no (type_of v) T.Integer)
   unfolding to_integer
   no_integer_lem k d =
-      by_kind (λ t k. OneOf unread k × (same_type t T.Integer ≡ false)) to_integer (λ t. IA.Refused (no t T.Integer)) s
+      by_kind (λ t k. OneOf unread k × (same_type t T.Integer ≡ false)) to_integer (λ t. Err (no t T.Integer)) s
       (λ b k. cc k.1) (λ n k. cc k.1) (λ k. refl) (λ k. absurd (miss unread 3 tt k.0)) (λ o n k. absurd (miss unread 4 tt k.0))
       (λ u k. absurd (miss unread 5 tt k.0)) (λ t. refl) v (k, d)
 
-  pub no_bool : OneOf not_bool (tag_of the_type v) → to_bool (held_by v s) ≡ BA.Refused (no (type_of v) T.Integer)
+  pub no_bool : OneOf not_bool (tag_of the_type v) → to_bool (held_by v s) ≡ Err (no (type_of v) T.Integer)
   unfolding to_bool
   no_bool =
-      by_kind (λ t. OneOf not_bool) to_bool (λ t. BA.Refused (no t T.Integer)) s (λ b k. absurd (miss not_bool 0 tt k)) (λ n k. absurd (miss not_bool 1 tt k))
+      by_kind (λ t. OneOf not_bool) to_bool (λ t. Err (no t T.Integer)) s (λ b k. absurd (miss not_bool 0 tt k)) (λ n k. absurd (miss not_bool 1 tt k))
       (λ k. refl) (λ k. refl) (λ o n k. refl) (λ u k. refl) (λ t. refl) v
 
   pub no_buffer : OneOf unread (tag_of the_type v) → to_buffer (held_by v s) ≡ none (no (type_of v) T.Buffer)
@@ -220,8 +219,8 @@ module _ (v : AmlValue) (s : List ℕ) where
       by_kind (λ t. OneOf not_string) to_string (λ t. none (no t T.String)) s (λ b k. refl) (λ n k. refl) (λ k. absurd (miss not_string 2 tt k)) (λ k. refl)
       (λ o n k. refl) (λ u k. absurd (miss not_string 5 tt k)) (λ t. refl) v
 
-  pub no_parsed : OneOf not_parsed (tag_of the_type v) → parsed (held_by v s) ≡ IA.Refused (no (type_of v) T.Integer)
+  pub no_parsed : OneOf not_parsed (tag_of the_type v) → parsed (held_by v s) ≡ Err (no (type_of v) T.Integer)
   unfolding parsed
   no_parsed =
-      by_kind (λ t. OneOf not_parsed) parsed (λ t. IA.Refused (no t T.Integer)) s (λ b k. refl) (λ n k. absurd (miss not_parsed 1 tt k)) (λ k. absurd (miss not_parsed 2 tt k))
+      by_kind (λ t. OneOf not_parsed) parsed (λ t. Err (no t T.Integer)) s (λ b k. refl) (λ n k. absurd (miss not_parsed 1 tt k)) (λ k. absurd (miss not_parsed 2 tt k))
       (λ k. absurd (miss not_parsed 3 tt k)) (λ o n k. refl) (λ u k. refl) (λ t. refl) v

@@ -14,7 +14,7 @@ use Rattle.types.specs.Refusals.{first_of}
 use Rattle.types.specs.declared.refusal.Refusal.{Refusal}
 use Rattle.types.specs.declared.refusal.Refusal.TheVariants as R
 use Rattle.value.specs.Conversions.{Bytes, these, none, given, giving, into}
-use Rattle.value.specs.declared.convert.LengthAnswer.TheVariants as LA
+use Rattle.std.specs.Prelude.{Ok, Err}
 
 -- ---- the bytes, with what the output has behind them
 module _ (l out : List ℕ) where
@@ -61,16 +61,16 @@ bits_into out m g b h =
     (λ p. with_bits_kept out 0 (8 * m) g j q2 (b j) (λ i r x y. omega arith) ∙ sym (into_kept (bytes g 0 m) out j (omega arith))))
 
 -- ---- the answer
-pub giving_none : (r : Refusal) (out : List ℕ) → giving (none r) out ≡ given (LA.Refused r) out
+pub giving_none : (r : Refusal) (out : List ℕ) → giving (none r) out ≡ given (Err r) out
 unfolding giving
 giving_none r out = refl
 
 module _ (l out : List ℕ) where
-  pub giving_short : length out < length l → giving (these l) out ≡ given (LA.Refused R.OutputTooShort) out
+  pub giving_short : length out < length l → giving (these l) out ≡ given (Err R.OutputTooShort) out
   unfolding giving first_of
   giving_short h = rw (lt-ltb (length out) (length l) h)
 
-  pub giving_these : length l ≤ length out → giving (these l) out ≡ given (LA.Length (length l)) (into l out)
+  pub giving_these : length l ≤ length out → giving (these l) out ≡ given (Ok (length l)) (into l out)
   unfolding giving first_of
   giving_these h = rw (le-ltb (length out) (length l) h)
 

@@ -15,11 +15,8 @@ use mathlib.Core.Bool.{cond}
 use Rattle.value.specs.Conversions.{held_by, lent, to_integer, as_integer, to_bool, as_bool, to_buffer, as_buffer, to_string, as_string, given, giving, given_type, to_type, same_type, as_type}
 use Rattle.value.specs.Integers.{parsed, def_to_integer}
 use Rattle.value.specs.Status.{to_status, as_status}
-use Rattle.value.specs.declared.convert.IntegerAnswer.TheVariants as IA
-use Rattle.value.specs.declared.convert.BoolAnswer.TheVariants as BA
-use Rattle.value.specs.declared.convert.LengthAnswer.TheVariants as LA
-use Rattle.value.specs.declared.convert.TypeAnswer.TheVariants as TA
-use Rattle.value.specs.declared.status.StatusAnswer.TheVariants as SA
+use Rattle.std.specs.Prelude.{Ok, Err}
+use Rattle.value.specs.declared.convert.Converted.TheVariants as Co
 
 module _ {A : Type 0} (s : List ℕ) (a : A) (f : Refusal → A) where
   pub lent_long : 65536 < length s → lent s a f ≡ f R.TooManyBytes
@@ -32,65 +29,65 @@ module _ {A : Type 0} (s : List ℕ) (a : A) (f : Refusal → A) where
 
 -- ---- too many bytes
 module _ (v : AmlValue) (s : List ℕ) (l : 65536 < length s) where
-  pub as_integer_long : as_integer v s ≡ IA.Refused R.TooManyBytes
+  pub as_integer_long : as_integer v s ≡ Err R.TooManyBytes
   unfolding as_integer
-  as_integer_long = lent_long s (to_integer (held_by v s)) IA.Refused l
+  as_integer_long = lent_long s (to_integer (held_by v s)) Err l
 
-  pub as_bool_long : as_bool v s ≡ BA.Refused R.TooManyBytes
+  pub as_bool_long : as_bool v s ≡ Err R.TooManyBytes
   unfolding as_bool
-  as_bool_long = lent_long s (to_bool (held_by v s)) BA.Refused l
+  as_bool_long = lent_long s (to_bool (held_by v s)) Err l
 
-  pub as_buffer_long : (out : List ℕ) → as_buffer v s out ≡ given (LA.Refused R.TooManyBytes) out
+  pub as_buffer_long : (out : List ℕ) → as_buffer v s out ≡ given (Err R.TooManyBytes) out
   unfolding as_buffer
-  as_buffer_long out = lent_long s (giving (to_buffer (held_by v s)) out) (λ r. given (LA.Refused r) out) l
+  as_buffer_long out = lent_long s (giving (to_buffer (held_by v s)) out) (λ r. given (Err r) out) l
 
-  pub as_string_long : (out : List ℕ) → as_string v s out ≡ given (LA.Refused R.TooManyBytes) out
+  pub as_string_long : (out : List ℕ) → as_string v s out ≡ given (Err R.TooManyBytes) out
   unfolding as_string
-  as_string_long out = lent_long s (giving (to_string (held_by v s)) out) (λ r. given (LA.Refused r) out) l
+  as_string_long out = lent_long s (giving (to_string (held_by v s)) out) (λ r. given (Err r) out) l
 
-  pub as_type_long : (wanted : AmlType) (out : List ℕ) → as_type v s wanted out ≡ given_type (TA.Refused R.TooManyBytes) out
+  pub as_type_long : (wanted : AmlType) (out : List ℕ) → as_type v s wanted out ≡ given_type (Err R.TooManyBytes) out
   unfolding as_type
   as_type_long wanted out =
-      lent_long s (cond (same_type (type_of v) wanted) (given_type TA.Same out) (to_type (type_of v) wanted (held_by v s) out))
-      (λ r. given_type (TA.Refused r) out) l
+      lent_long s (cond (same_type (type_of v) wanted) (given_type (Ok Co.Same) out) (to_type (type_of v) wanted (held_by v s) out))
+      (λ r. given_type (Err r) out) l
 
-  pub def_to_integer_long : def_to_integer v s ≡ IA.Refused R.TooManyBytes
+  pub def_to_integer_long : def_to_integer v s ≡ Err R.TooManyBytes
   unfolding def_to_integer
-  def_to_integer_long = lent_long s (parsed (held_by v s)) IA.Refused l
+  def_to_integer_long = lent_long s (parsed (held_by v s)) Err l
 
-  pub as_status_long : as_status v s ≡ SA.Refused R.TooManyBytes
+  pub as_status_long : as_status v s ≡ Err R.TooManyBytes
   unfolding as_status
-  as_status_long = lent_long s (to_status (held_by v s)) SA.Refused l
+  as_status_long = lent_long s (to_status (held_by v s)) Err l
 
 -- ---- no more than that
 module _ (v : AmlValue) (s : List ℕ) (l : length s ≤ 65536) where
   pub as_integer_short : as_integer v s ≡ to_integer (held_by v s)
   unfolding as_integer
-  as_integer_short = lent_short s (to_integer (held_by v s)) IA.Refused l
+  as_integer_short = lent_short s (to_integer (held_by v s)) Err l
 
   pub as_bool_short : as_bool v s ≡ to_bool (held_by v s)
   unfolding as_bool
-  as_bool_short = lent_short s (to_bool (held_by v s)) BA.Refused l
+  as_bool_short = lent_short s (to_bool (held_by v s)) Err l
 
   pub as_buffer_short : (out : List ℕ) → as_buffer v s out ≡ giving (to_buffer (held_by v s)) out
   unfolding as_buffer
-  as_buffer_short out = lent_short s (giving (to_buffer (held_by v s)) out) (λ r. given (LA.Refused r) out) l
+  as_buffer_short out = lent_short s (giving (to_buffer (held_by v s)) out) (λ r. given (Err r) out) l
 
   pub as_string_short : (out : List ℕ) → as_string v s out ≡ giving (to_string (held_by v s)) out
   unfolding as_string
-  as_string_short out = lent_short s (giving (to_string (held_by v s)) out) (λ r. given (LA.Refused r) out) l
+  as_string_short out = lent_short s (giving (to_string (held_by v s)) out) (λ r. given (Err r) out) l
 
   pub as_type_short : (wanted : AmlType) (out : List ℕ)
-      → as_type v s wanted out ≡ cond (same_type (type_of v) wanted) (given_type TA.Same out) (to_type (type_of v) wanted (held_by v s) out)
+      → as_type v s wanted out ≡ cond (same_type (type_of v) wanted) (given_type (Ok Co.Same) out) (to_type (type_of v) wanted (held_by v s) out)
   unfolding as_type
   as_type_short wanted out =
-      lent_short s (cond (same_type (type_of v) wanted) (given_type TA.Same out) (to_type (type_of v) wanted (held_by v s) out))
-      (λ r. given_type (TA.Refused r) out) l
+      lent_short s (cond (same_type (type_of v) wanted) (given_type (Ok Co.Same) out) (to_type (type_of v) wanted (held_by v s) out))
+      (λ r. given_type (Err r) out) l
 
   pub def_to_integer_short : def_to_integer v s ≡ parsed (held_by v s)
   unfolding def_to_integer
-  def_to_integer_short = lent_short s (parsed (held_by v s)) IA.Refused l
+  def_to_integer_short = lent_short s (parsed (held_by v s)) Err l
 
   pub as_status_short : as_status v s ≡ to_status (held_by v s)
   unfolding as_status
-  as_status_short = lent_short s (to_status (held_by v s)) SA.Refused l
+  as_status_short = lent_short s (to_status (held_by v s)) Err l

@@ -3,7 +3,6 @@ pub mod ByKind
 pub mod Giving
 pub mod Fields
 pub mod Named
-pub mod Texts
 pub mod Statuses
 pub mod Writes
 pub mod Lengths

@@ -16,7 +16,7 @@ use Rattle.types.specs.contracts.value.AmlValue.{the_type}
 use Rattle.value.specs.Conversions.{integer, held_by}
 use Rattle.value.specs.Status.{status_of, to_status}
 use Rattle.value.specs.declared.status.StatusObject.{StatusObject}
-use Rattle.value.specs.declared.status.StatusAnswer.TheVariants as SA
+use Rattle.std.specs.Prelude.{Ok, Err}
 
 pub bit_by_division : (n k : ℕ) → bit_of n k ≡ n / 2 ^ k % 2
 unfolding bit_of
@@ -36,11 +36,11 @@ status_parts n =
 pub status_parts_lem : (n : ℕ) → status_of n ≡ status_parts n
 status_parts_lem n = rw (bit_of_zero n, bit_by_division n 1, bit_by_division n 2, bit_by_division n 3, bit_by_division n 4)
 
-pub status_of_lem : (n : ℕ) → n < 32 → to_status (integer n) ≡ SA.Status (status_parts n)
+pub status_of_lem : (n : ℕ) → n < 32 → to_status (integer n) ≡ Ok (status_parts n)
 unfolding to_status
-status_of_lem n h = rw (lt-ltb n 32 h) (ap SA.Status (status_parts_lem n))
+status_of_lem n h = rw (lt-ltb n 32 h) (ap Ok (status_parts_lem n))
 
-pub status_high : (n : ℕ) → 32 ≤ n → to_status (integer n) ≡ SA.Refused R.InvalidStatusObject
+pub status_high : (n : ℕ) → 32 ≤ n → to_status (integer n) ≡ Err R.InvalidStatusObject
 unfolding to_status
 status_high n h = rw (le-ltb n 32 h)
 
@@ -48,7 +48,7 @@ status_high n h = rw (le-ltb n 32 h)
 abbrev pub not_status : List ℕ
 not_status = 0 ∷ 2 ∷ 3 ∷ 4 ∷ 5 ∷ 6 ∷ 7 ∷ 8 ∷ 9 ∷ 10 ∷ 11 ∷ 12 ∷ 13 ∷ []
 
-pub no_status : (v : AmlValue) (s : List ℕ) → OneOf not_status (tag_of the_type v) → to_status (held_by v s) ≡ SA.Refused R.InvalidStatusObject
+pub no_status : (v : AmlValue) (s : List ℕ) → OneOf not_status (tag_of the_type v) → to_status (held_by v s) ≡ Err R.InvalidStatusObject
 unfolding to_status
 no_status (Val.Integer n) s k = absurd (miss not_status 1 tt k)
 no_status (Val.Boolean b) s k = refl

@@ -14,15 +14,9 @@ use Rattle.types.specs.declared.value.FieldUnit.{FieldUnit}
 use Rattle.buffer_field.specs.BufferFields.{too_long, out_of_bounds}
 use Rattle.field_unit.specs.Calls.{read_field}
 use Rattle.field_unit.specs.declared.whole.UnitRead.{UnitRead}
-use Rattle.field_unit.specs.declared.whole.UnitRead.TheVariants as UR
-use Rattle.value.specs.declared.convert.IntegerAnswer.{IntegerAnswer}
-use Rattle.value.specs.declared.convert.IntegerAnswer.TheVariants as IA
-use Rattle.value.specs.declared.convert.BoolAnswer.{BoolAnswer}
-use Rattle.value.specs.declared.convert.BoolAnswer.TheVariants as BA
-use Rattle.value.specs.declared.convert.LengthAnswer.{LengthAnswer}
-use Rattle.value.specs.declared.convert.LengthAnswer.TheVariants as LA
-use Rattle.value.specs.declared.convert.TypeAnswer.{TypeAnswer}
-use Rattle.value.specs.declared.convert.TypeAnswer.TheVariants as TA
+use Rattle.std.specs.Prelude.{Result, Ok, Err}
+use Rattle.value.specs.declared.convert.Converted.TheVariants as Co
+use Rattle.value.specs.declared.convert.Converted.{Converted}
 
 -- ---- integers
 
@@ -80,9 +74,9 @@ buffer_field_content o n s =
     (cond (leb n integer_bits) (number (get_bits s o n)) (bytes_read (bytes (run_bits s o n) 0 (bytes_for n))))
     refusal
 
-abbrev pub unit_content : UnitRead → Content
-unit_content (UR.Value v n) = number v
-unit_content (UR.Refused r) = refusal r
+abbrev pub unit_content : Result UnitRead Refusal → Content
+unit_content (Ok u) = number u.value
+unit_content (Err r) = refusal r
 
 abbrev pub field_unit_content : FieldUnit → List ℕ → Content
 field_unit_content f s = unit_content (read_field s f)
@@ -93,30 +87,30 @@ no present wanted = R.IncompatibleValueConversion present wanted
 
 -- ---- to integer: "Fields are read, then converted. String: refused, 1."
 
-abbrev pub content_integer : Content → IntegerAnswer
-content_integer (number n) = IA.Integer n
-content_integer (bytes_read l) = IA.Integer (buffer_number l)
-content_integer (refusal r) = IA.Refused r
+abbrev pub content_integer : Content → Result ℕ Refusal
+content_integer (number n) = Ok n
+content_integer (bytes_read l) = Ok (buffer_number l)
+content_integer (refusal r) = Err r
 
-unfoldable pub to_integer : Held → IntegerAnswer
-to_integer (boolean b) = IA.Integer (truth_number b)
-to_integer (integer n) = IA.Integer n
-to_integer (string s) = IA.Refused (no T.String T.Integer)
-to_integer (buffer s) = IA.Integer (buffer_number s)
+unfoldable pub to_integer : Held → Result ℕ Refusal
+to_integer (boolean b) = Ok (truth_number b)
+to_integer (integer n) = Ok n
+to_integer (string s) = Err (no T.String T.Integer)
+to_integer (buffer s) = Ok (buffer_number s)
 to_integer (buffer_field o n s) = content_integer (buffer_field_content o n s)
 to_integer (field_unit f s) = content_integer (field_unit_content f s)
-to_integer (kind t) = IA.Refused (no t T.Integer)
+to_integer (kind t) = Err (no t T.Integer)
 
 -- ---- to bool: "Integer not 0, or Boolean"; "To bool, the wanted type is Integer"
 
-unfoldable pub to_bool : Held → BoolAnswer
-to_bool (boolean b) = BA.Bool b
-to_bool (integer n) = BA.Bool (not (eqb n 0))
-to_bool (string s) = BA.Refused (no T.String T.Integer)
-to_bool (buffer s) = BA.Refused (no T.Buffer T.Integer)
-to_bool (buffer_field o n s) = BA.Refused (no T.BufferField T.Integer)
-to_bool (field_unit f s) = BA.Refused (no T.FieldUnit T.Integer)
-to_bool (kind t) = BA.Refused (no t T.Integer)
+unfoldable pub to_bool : Held → Result Bool Refusal
+to_bool (boolean b) = Ok b
+to_bool (integer n) = Ok (not (eqb n 0))
+to_bool (string s) = Err (no T.String T.Integer)
+to_bool (buffer s) = Err (no T.Buffer T.Integer)
+to_bool (buffer_field o n s) = Err (no T.BufferField T.Integer)
+to_bool (field_unit f s) = Err (no T.FieldUnit T.Integer)
+to_bool (kind t) = Err (no t T.Integer)
 
 -- ---- to buffer, to string: bytes, or a refusal
 
@@ -165,18 +159,18 @@ unit_refusal (refusal r) wanted = r
 abbrev pub lent : {A : Type 0} → List ℕ → A → (Refusal → A) → A
 lent s a f = judged (first_of ((too_long s, R.TooManyBytes) ∷ [])) a f
 
-unfoldable pub as_integer : AmlValue → List ℕ → IntegerAnswer
-as_integer v s = lent s (to_integer (held_by v s)) IA.Refused
+unfoldable pub as_integer : AmlValue → List ℕ → Result ℕ Refusal
+as_integer v s = lent s (to_integer (held_by v s)) Err
 
-unfoldable pub as_bool : AmlValue → List ℕ → BoolAnswer
-as_bool v s = lent s (to_bool (held_by v s)) BA.Refused
+unfoldable pub as_bool : AmlValue → List ℕ → Result Bool Refusal
+as_bool v s = lent s (to_bool (held_by v s)) Err
 
 -- the answer, and what the output holds after: "output bytes past the result keep their content"
 pub record Given : Type 0 where
-  pub answer : LengthAnswer
+  pub answer : Result ℕ Refusal
   pub out : List ℕ
 
-abbrev pub given : LengthAnswer → List ℕ → Given
+abbrev pub given : Result ℕ Refusal → List ℕ → Given
 given a out = record { answer = a; out = out }
 
 -- bytes at the front of an output, which keeps what it has behind them
@@ -186,47 +180,47 @@ into l out = l ++ drop (length l) out
 -- "20: output shorter than the result"
 unfoldable pub giving : Bytes → List ℕ → Given
 giving (these l) out =
-    judged (first_of ((ltb (length out) (length l), R.OutputTooShort) ∷ [])) (given (LA.Length (length l)) (into l out)) (λ r. given (LA.Refused r) out)
-giving (none r) out = given (LA.Refused r) out
+    judged (first_of ((ltb (length out) (length l), R.OutputTooShort) ∷ [])) (given (Ok (length l)) (into l out)) (λ r. given (Err r) out)
+giving (none r) out = given (Err r) out
 
 unfoldable pub as_buffer : AmlValue → List ℕ → List ℕ → Given
-as_buffer v s out = lent s (giving (to_buffer (held_by v s)) out) (λ r. given (LA.Refused r) out)
+as_buffer v s out = lent s (giving (to_buffer (held_by v s)) out) (λ r. given (Err r) out)
 
 unfoldable pub as_string : AmlValue → List ℕ → List ℕ → Given
-as_string v s out = lent s (giving (to_string (held_by v s)) out) (λ r. given (LA.Refused r) out)
+as_string v s out = lent s (giving (to_string (held_by v s)) out) (λ r. given (Err r) out)
 
 -- ---- to a named type: "the value itself where the type is already right .., else Integer or Buffer as above, else 1"
 
 pub record GivenType : Type 0 where
-  pub answer : TypeAnswer
+  pub answer : Result Converted Refusal
   pub out : List ℕ
 
-abbrev pub given_type : TypeAnswer → List ℕ → GivenType
+abbrev pub given_type : Result Converted Refusal → List ℕ → GivenType
 given_type a out = record { answer = a; out = out }
 
-abbrev pub integer_type : IntegerAnswer → TypeAnswer
-integer_type (IA.Integer n) = TA.Integer n
-integer_type (IA.Refused r) = TA.Refused r
+abbrev pub integer_type : Result ℕ Refusal → Result Converted Refusal
+integer_type (Ok n) = Ok (Co.Integer n)
+integer_type (Err r) = Err r
 
-abbrev pub length_type : LengthAnswer → TypeAnswer
-length_type (LA.Length n) = TA.Buffer n
-length_type (LA.Refused r) = TA.Refused r
+abbrev pub length_type : Result ℕ Refusal → Result Converted Refusal
+length_type (Ok n) = Ok (Co.Buffer n)
+length_type (Err r) = Err r
 
 -- what a value of another type becomes
 abbrev pub to_type : AmlType → AmlType → Held → List ℕ → GivenType
 to_type present T.Integer h out = given_type (integer_type (to_integer h)) out
 to_type present T.Buffer h out = given_type (length_type (giving (to_buffer h) out).answer) (giving (to_buffer h) out).out
-to_type present T.BufferField h out = given_type (TA.Refused (no present T.BufferField)) out
-to_type present T.FieldUnit h out = given_type (TA.Refused (no present T.FieldUnit)) out
-to_type present T.Device h out = given_type (TA.Refused (no present T.Device)) out
-to_type present T.Method h out = given_type (TA.Refused (no present T.Method)) out
-to_type present T.Mutex h out = given_type (TA.Refused (no present T.Mutex)) out
-to_type present T.OpRegion h out = given_type (TA.Refused (no present T.OpRegion)) out
-to_type present T.Package h out = given_type (TA.Refused (no present T.Package)) out
-to_type present T.PowerResource h out = given_type (TA.Refused (no present T.PowerResource)) out
-to_type present T.Processor h out = given_type (TA.Refused (no present T.Processor)) out
-to_type present T.String h out = given_type (TA.Refused (no present T.String)) out
-to_type present T.ThermalZone h out = given_type (TA.Refused (no present T.ThermalZone)) out
+to_type present T.BufferField h out = given_type (Err (no present T.BufferField)) out
+to_type present T.FieldUnit h out = given_type (Err (no present T.FieldUnit)) out
+to_type present T.Device h out = given_type (Err (no present T.Device)) out
+to_type present T.Method h out = given_type (Err (no present T.Method)) out
+to_type present T.Mutex h out = given_type (Err (no present T.Mutex)) out
+to_type present T.OpRegion h out = given_type (Err (no present T.OpRegion)) out
+to_type present T.Package h out = given_type (Err (no present T.Package)) out
+to_type present T.PowerResource h out = given_type (Err (no present T.PowerResource)) out
+to_type present T.Processor h out = given_type (Err (no present T.Processor)) out
+to_type present T.String h out = given_type (Err (no present T.String)) out
+to_type present T.ThermalZone h out = given_type (Err (no present T.ThermalZone)) out
 
 abbrev pub same_type : AmlType → AmlType → Bool
 same_type a b = eqb (type_number_of a) (type_number_of b)
@@ -234,5 +228,5 @@ same_type a b = eqb (type_number_of a) (type_number_of b)
 unfoldable pub as_type : AmlValue → List ℕ → AmlType → List ℕ → GivenType
 as_type v s wanted out =
     lent s
-    (cond (same_type (type_of v) wanted) (given_type TA.Same out) (to_type (type_of v) wanted (held_by v s) out))
-    (λ r. given_type (TA.Refused r) out)
+    (cond (same_type (type_of v) wanted) (given_type (Ok Co.Same) out) (to_type (type_of v) wanted (held_by v s) out))
+    (λ r. given_type (Err r) out)

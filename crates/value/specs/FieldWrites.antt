@@ -7,25 +7,18 @@ use Rattle.types.specs.declared.value.AmlValue.{AmlValue}
 use Rattle.types.specs.declared.value.FieldUnit.{FieldUnit}
 use Rattle.buffer_field.specs.BufferFields.{too_long}
 use Rattle.field_unit.specs.Calls.{checked, writing, write_field, Wrote, wrote}
-use Rattle.field_unit.specs.declared.whole.UnitWritten.{UnitWritten}
-use Rattle.field_unit.specs.declared.whole.UnitWritten.TheVariants as UW
+use Rattle.std.specs.Prelude.{Result, Ok, Err}
+use Rattle.types.specs.declared.refusal.Refusal.{Refusal}
 use Rattle.value.specs.Conversions.{held_by, to_integer}
-use Rattle.value.specs.declared.convert.IntegerAnswer.{IntegerAnswer}
-use Rattle.value.specs.declared.convert.IntegerAnswer.TheVariants as IA
-
--- what converting refused, as the answer of a write; a number is no refusal, and no access is made for it
-abbrev pub conversion_refused : IntegerAnswer → UnitWritten
-conversion_refused (IA.Integer n) = UW.Count 0
-conversion_refused (IA.Refused r) = UW.Refused r
 
 -- of a number, or of what converting refused
-abbrev pub write_integer : List ℕ → FieldUnit → IntegerAnswer → Wrote
-write_integer s f (IA.Integer n) = write_field s f n
-write_integer s f (IA.Refused r) = wrote (UW.Refused r) s
+abbrev pub write_integer : List ℕ → FieldUnit → Result ℕ Refusal → Wrote
+write_integer s f (Ok n) = write_field s f n
+write_integer s f (Err r) = wrote (Err r) s
 
 -- a value and its bytes, written to the field f of the region s
 unfoldable pub write_value : List ℕ → FieldUnit → AmlValue → List ℕ → Wrote
 write_value s f v bytes =
     judged (first_of ((too_long s || too_long bytes, R.TooManyBytes) ∷ []))
-    (judged (checked (writing f 0) (length s)) (write_integer s f (to_integer (held_by v bytes))) (λ r. wrote (UW.Refused r) s))
-    (λ r. wrote (UW.Refused r) s)
+    (judged (checked (writing f 0) (length s)) (write_integer s f (to_integer (held_by v bytes))) (λ r. wrote (Err r) s))
+    (λ r. wrote (Err r) s)

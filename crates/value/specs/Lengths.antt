@@ -4,15 +4,15 @@
 use Rattle.std.specs.Prelude.{List, ℕ, length}
 use Rattle.types.specs.declared.value.AmlValue.{AmlValue}
 use Rattle.value.specs.Conversions.{Bytes, these, none, held_by, to_buffer, to_string, lent}
-use Rattle.value.specs.declared.convert.LengthAnswer.{LengthAnswer}
-use Rattle.value.specs.declared.convert.LengthAnswer.TheVariants as LA
+use Rattle.std.specs.Prelude.{Result, Ok, Err}
+use Rattle.types.specs.declared.refusal.Refusal.{Refusal}
 
-abbrev pub length_of : Bytes → LengthAnswer
-length_of (these l) = LA.Length (length l)
-length_of (none r) = LA.Refused r
+abbrev pub length_of : Bytes → Result ℕ Refusal
+length_of (these l) = Ok (length l)
+length_of (none r) = Err r
 
-unfoldable pub buffer_length : AmlValue → List ℕ → LengthAnswer
-buffer_length v s = lent s (length_of (to_buffer (held_by v s))) LA.Refused
+unfoldable pub buffer_length : AmlValue → List ℕ → Result ℕ Refusal
+buffer_length v s = lent s (length_of (to_buffer (held_by v s))) Err
 
-unfoldable pub string_length : AmlValue → List ℕ → LengthAnswer
-string_length v s = lent s (length_of (to_string (held_by v s))) LA.Refused
+unfoldable pub string_length : AmlValue → List ℕ → Result ℕ Refusal
+string_length v s = lent s (length_of (to_string (held_by v s))) Err

@@ -1,102 +1,64 @@
 // A job's call: what is lent with it, and what is told of it.
-ghost use Rattle.std.specs.Counts.{IsPrefixLen};
-ghost use Rattle.std.specs.Prelude.{◌≤◌};
+use crate::job::Job;
+use crate::told::{Given, Text};
+use crate::{fields, operators, told, values};
+use types::refusal::Refusal;
 
-use crate::lent::{fill, fill_out, tell};
-use crate::lines::{byte, half};
-use crate::{fields, job, operators, told, values};
+// The room for the bytes that are lent. The output's holds what the longest Concat gives.
+#[derive(Clone, Copy)]
+pub struct Room {
+    pub first: [u8; 65544],
+    pub second: [u8; 65544],
+    pub third: [u8; 65544],
+    pub out: [u8; 131088],
+}
 
+// The calls' numbers are those of the jobs (OPS in tests/lines.py).
 const UNIT: u8 = 1;
 
 const MID: u8 = 25;
 
-// The length in these columns, cut to the bytes there are.
-fn length(line: &[u8; 496], at: usize, bytes: &[u8]) -> usize
-    requires { at ≤ 488 }
-    ensures { IsPrefixLen result bytes.now }
-{
-    bytes.len().min(half(line, at) as usize)
-}
-
-// The operand whose bytes are lent second: the steps of a field unit go over the same region once more.
-fn second_lent(line: &[u8; 496]) -> usize
-    ensures { result ≤ 192 }
-{
-    if byte(line, job::OP) == UNIT {
-        job::FIRST
+// Lends the bytes, makes the call, tells of it and of the bytes after it. A field unit's steps go over its region once more, so its
+// bytes are lent twice. Mid's part has the output's columns.
+pub(crate) fn answer(job: &Job, room: &mut Room) -> Text {
+    let twice = if job.call == UNIT {
+        job.first.bytes
     } else {
-        job::SECOND
+        job.second.bytes
+    };
+    let first = job.first.bytes.lend(&mut room.first);
+    let second = twice.lend(&mut room.second);
+    let third = job.third.bytes.lend(&mut room.third);
+    let out = job.out.lend(&mut room.out);
+    let mut text = Text::blank();
+    let answered = make_call(job, first, second, third, out, &mut text);
+    text.answer(answered);
+    text.tell(told::FIRST, first, job.show);
+    text.tell(told::SECOND, second, job.show);
+    if job.call == MID {
+        let part = operators::mid_part(job, first, second, third);
+        text.tell(told::OUT, part, 0);
+    } else {
+        text.tell(told::OUT, out, job.show);
     }
+    text
 }
 
-// Lends the bytes, makes the call, tells of it and of the bytes after it.
-pub(crate) fn answer(
-    line: &[u8; 496],
-    first: &mut [u8],
-    second: &mut [u8],
-    third: &mut [u8],
-    out: &mut [u8],
-    text: &mut [u8; 232],
-) {
-    let twice = second_lent(line);
-    let n1 = length(line, job::FIRST + job::COUNT, first);
-    let n2 = length(line, twice + job::COUNT, second);
-    let n3 = length(line, job::THIRD + job::COUNT, third);
-    let n = length(line, job::OUT, out);
-    let a = &mut first[..n1];
-    let b = &mut second[..n2];
-    let c = &mut third[..n3];
-    let o = &mut out[..n];
-    fill(line, job::FIRST, a);
-    fill(line, twice, b);
-    fill(line, job::THIRD, c);
-    fill_out(line, o);
-    told::clear(text);
-    make_call(line, a, b, c, o, text);
-    let from = half(line, job::SHOW);
-    tell(text, told::FIRST, a, from);
-    tell(text, told::SECOND, b, from);
-    tell_out(line, a, b, c, o, text);
-}
-
+// A match on the number, here and in the modules: it is the job's own column, and no enum of 31 calls would say more than the arms do.
 fn make_call(
-    line: &[u8; 496],
+    job: &Job,
     first: &mut [u8],
     second: &mut [u8],
     third: &[u8],
     out: &mut [u8],
-    text: &mut [u8; 232],
-) {
-    let op = byte(line, job::OP);
-    match op {
-        1..=8 => fields::call(op, line, first, second, out, text),
-        9..=15 => values::call(op, line, first, out, text),
-        16 => values::write_value(line, first, second, text),
-        17 => values::write_value_self(line, first, text),
-        18..=25 => operators::call(op, line, first, second, third, text),
-        26..=28 => operators::call_out(op, line, first, second, out, text),
-        29..=31 => values::call(op, line, first, out, text),
-        _ => {}
+    text: &mut Text,
+) -> Result<Given, Refusal> {
+    match job.call {
+        1..=8 => fields::call(job, first, second, out, text),
+        9..=15 | 29..=31 => values::call(job, first, out),
+        16..=17 => values::write(job, first, second),
+        18..=25 => operators::call(job, first, second, third),
+        26..=28 => operators::call_out(job, first, second, out),
+        _ => Ok(Given::default()),
     }
-}
-
-// Mid's part has the output's columns.
-fn tell_out(
-    line: &[u8; 496],
-    first: &[u8],
-    second: &[u8],
-    third: &[u8],
-    out: &[u8],
-    text: &mut [u8; 232],
-) {
-    if byte(line, job::OP) == MID {
-        tell(
-            text,
-            told::OUT,
-            operators::mid_part(line, first, second, third),
-            0,
-        );
-        return;
-    }
-    tell(text, told::OUT, out, half(line, job::SHOW));
 }

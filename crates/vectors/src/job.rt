@@ -1,119 +1,149 @@
-// The columns of a job, and what they say.
-ghost use Rattle.std.specs.Prelude.{◌≤◌};
+// A job, as the columns of its line say it.
+ghost use Rattle.std.specs.Prelude.{◌≡◌, length};
 
-use crate::lines::{byte, word};
+use crate::lent::Pattern;
+use crate::lines::{byte, number};
 use field_unit::access::FieldOp;
+use std::ops::Range;
 use types::flags::FieldFlags;
 use types::value::{AmlType, AmlValue, FieldUnit, RegionSpace};
 
-pub const OP: usize = 0; // which call
+const CALL: Range<usize> = 0..2;
 
-pub const WRITES: usize = 3; // 1 for a write
+const WRITES: Range<usize> = 3..5; // 1 for a write
 
-pub const HELD: usize = 6; // for one access alone: what is held, and how many were made
+const HELD: Range<usize> = 6..22;
 
-pub const MADE: usize = 23; // for a check alone: the region's length; for a named type: its number
+const MADE: Range<usize> = 23..39;
 
-pub const SHOW: usize = 40; // where the shown bytes begin
+const SHOW: Range<usize> = 40..48;
 
-pub const FIRST: usize = 49; // the three operands
+const FIRST: Range<usize> = 49..191; // the three operands
 
-pub const SECOND: usize = 192;
+const SECOND: Range<usize> = 192..334;
 
-pub const THIRD: usize = 335;
+const THIRD: Range<usize> = 335..477;
 
-pub const OUT: usize = 478; // the output: its length and seed
+const OUT: Range<usize> = 478..486; // the output: its length and seed
 
-pub const OUT_SEED: usize = 487;
+const OUT_SEED: Range<usize> = 487..495;
 
-// The columns of an operand, each so many places behind its first.
-const KIND: usize = 0;
+// The columns of an operand.
+const KIND: Range<usize> = 0..2;
 
-const FLAGS: usize = 3;
+const FLAGS: Range<usize> = 3..5;
 
-const SPACE: usize = 6;
+const SPACE: Range<usize> = 6..8;
 
-const OFFSET: usize = 9;
+const OFFSET: Range<usize> = 9..25;
 
-const LENGTH: usize = 26;
+const LENGTH: Range<usize> = 26..42;
 
-const VALUE: usize = 43;
+const VALUE: Range<usize> = 43..59;
 
-pub const COUNT: usize = 60; // the bytes lent beside the value: their length, seed and head
+const COUNT: Range<usize> = 60..68; // the bytes lent beside the value: their length, seed and head
 
-pub const SEED: usize = 69;
+const SEED: Range<usize> = 69..77;
 
-pub const HEAD: usize = 78;
+const HEAD: Range<usize> = 78..142;
 
-fn space_of(n: u8) -> RegionSpace {
-    match n {
-        0 => RegionSpace::SystemMemory,
-        1 => RegionSpace::SystemIo,
-        2 => RegionSpace::PciConfig,
-        3 => RegionSpace::EmbeddedControl,
-        4 => RegionSpace::SMBus,
-        5 => RegionSpace::SystemCmos,
-        6 => RegionSpace::PciBarTarget,
-        7 => RegionSpace::IPMI,
-        8 => RegionSpace::GeneralPurposeIo,
-        9 => RegionSpace::GenericSerialBus,
-        _ => RegionSpace::OemDefined(n),
+// A value, the same columns as a field and as a number, and the bytes lent beside it.
+#[derive(Clone, Copy)]
+pub struct Operand {
+    pub value: AmlValue,
+    pub field: FieldUnit,
+    pub number: u64,
+    pub bytes: Pattern,
+}
+
+// held, made: for one access alone. made: also the region's length for a check alone, and the number of a named type.
+// show: where the shown bytes begin.
+#[derive(Clone, Copy)]
+pub struct Job {
+    pub call: u8,
+    pub writes: bool,
+    pub held: u64,
+    pub made: u64,
+    pub show: usize,
+    pub first: Operand,
+    pub second: Operand,
+    pub third: Operand,
+    pub out: Pattern,
+}
+
+impl Operand {
+    fn read(columns: &[u8]) -> Operand
+        requires { length columns.now ≡ 142 }
+    {
+        let field = FieldUnit {
+            space: RegionSpace::from(byte(&columns[SPACE])),
+            flags: FieldFlags::new(byte(&columns[FLAGS])),
+            offset: number(&columns[OFFSET]),
+            length: number(&columns[LENGTH]),
+        };
+        let number_of = number(&columns[VALUE]);
+        Operand {
+            value: value(byte(&columns[KIND]), number_of, field),
+            field,
+            number: number_of,
+            bytes: Pattern {
+                count: number(&columns[COUNT]) as usize,
+                seed: number(&columns[SEED]),
+                head: head(&columns[HEAD]),
+            },
+        }
     }
 }
 
-pub(crate) fn offset_of(line: &[u8; 496], at: usize) -> u64
-    requires { at ≤ 335 }
-{
-    word(line, at + OFFSET)
-}
+impl Job {
+    pub(crate) fn read(line: &[u8; 496]) -> Job {
+        Job {
+            call: byte(&line[CALL]),
+            writes: byte(&line[WRITES]) != 0,
+            held: number(&line[HELD]),
+            made: number(&line[MADE]),
+            show: number(&line[SHOW]) as usize,
+            first: Operand::read(&line[FIRST]),
+            second: Operand::read(&line[SECOND]),
+            third: Operand::read(&line[THIRD]),
+            out: Pattern {
+                count: number(&line[OUT]) as usize,
+                seed: number(&line[OUT_SEED]),
+                head: [0; 32],
+            },
+        }
+    }
 
-pub(crate) fn length_of(line: &[u8; 496], at: usize) -> u64
-    requires { at ≤ 335 }
-{
-    word(line, at + LENGTH)
-}
+    // The field of the first operand, written with the number of the second.
+    pub(crate) fn op(&self) -> FieldOp {
+        FieldOp {
+            write: self.writes,
+            field: self.first.field,
+            value: self.second.number,
+        }
+    }
 
-pub(crate) fn flags_of(line: &[u8; 496], at: usize) -> FieldFlags
-    requires { at ≤ 335 }
-{
-    FieldFlags::new(byte(line, at + FLAGS))
-}
-
-pub(crate) fn field_of(line: &[u8; 496], at: usize) -> FieldUnit
-    requires { at ≤ 335 }
-{
-    FieldUnit {
-        space: space_of(byte(line, at + SPACE)),
-        flags: flags_of(line, at),
-        offset: offset_of(line, at),
-        length: length_of(line, at),
+    // The type whose number stands in `made`; BufferField where none has it.
+    pub(crate) fn named_type(&self) -> AmlType {
+        match u8::try_from(self.made) {
+            Ok(n) => AmlType::try_from(n).unwrap_or(AmlType::BufferField),
+            Err(_) => AmlType::BufferField,
+        }
     }
 }
 
-// The field of the first operand, written with the number of the second.
-pub(crate) fn op_of(line: &[u8; 496]) -> FieldOp {
-    FieldOp {
-        write: byte(line, WRITES) != 0,
-        field: field_of(line, FIRST),
-        value: word(line, SECOND + VALUE),
-    }
-}
-
-pub(crate) fn value_of(line: &[u8; 496], at: usize) -> AmlValue
-    requires { at ≤ 335 }
-{
-    let kind = byte(line, at + KIND);
-    let x = word(line, at + VALUE);
+// The kinds' numbers are those of the jobs (KINDS in tests/lines.py).
+fn value(kind: u8, number: u64, field: FieldUnit) -> AmlValue {
     match kind {
-        0 => AmlValue::Boolean(x != 0),
-        1 => AmlValue::Integer(x),
+        0 => AmlValue::Boolean(number != 0),
+        1 => AmlValue::Integer(number),
         2 => AmlValue::String,
         3 => AmlValue::Buffer,
         4 => AmlValue::BufferField {
-            offset: offset_of(line, at),
-            length: length_of(line, at),
+            offset: field.offset,
+            length: field.length,
         },
-        5 => AmlValue::Field(field_of(line, at)),
+        5 => AmlValue::Field(field),
         6 => AmlValue::OpRegion,
         7 => AmlValue::Device,
         8 => AmlValue::Method,
@@ -125,22 +155,11 @@ pub(crate) fn value_of(line: &[u8; 496], at: usize) -> AmlValue
     }
 }
 
-// The type whose number stands in `made`.
-pub(crate) fn type_named(line: &[u8; 496]) -> AmlType {
-    let n = word(line, MADE);
-    match n {
-        1 => AmlType::Integer,
-        2 => AmlType::String,
-        3 => AmlType::Buffer,
-        4 => AmlType::Package,
-        5 => AmlType::FieldUnit,
-        6 => AmlType::Device,
-        8 => AmlType::Method,
-        9 => AmlType::Mutex,
-        10 => AmlType::OpRegion,
-        11 => AmlType::PowerResource,
-        12 => AmlType::Processor,
-        13 => AmlType::ThermalZone,
-        _ => AmlType::BufferField,
+fn head(columns: &[u8]) -> [u8; 32] {
+    let mut head = [0; 32];
+    let (pairs, _) = columns.as_chunks::<2>();
+    for (place, pair) in head.iter_mut().zip(pairs) {
+        *place = byte(pair);
     }
+    head
 }

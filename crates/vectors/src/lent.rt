@@ -1,115 +1,78 @@
 // The bytes that a job lends, named by a length and a seed, and what is told of them after the call.
-ghost use Rattle.std.specs.Prelude.{◌<◌, ◌≤◌};
+ghost use Rattle.std.specs.Prelude.{◌≡◌, length};
 
-use crate::job;
-use crate::lines::{byte, half, put_byte, put_half};
+use crate::lines::put;
 
-// The bytes of an operand's seed; 2 names those of its head.
-pub(crate) fn fill(line: &[u8; 496], at: usize, bytes: &mut [u8])
-    requires { at ≤ 335 }
-{
-    let seed = half(line, at + job::SEED);
-    if seed == 2 {
-        fill_head(line, at + job::HEAD, bytes);
-        return;
+// So many bytes, by the jobs' seeds: 0 names zeros, 1 ones, 2 the bytes of the head with zeros behind them, 3 the text 0..01, any other a linear
+// congruence, from 2^31 on in seven bits.
+#[derive(Clone, Copy)]
+pub struct Pattern {
+    pub count: usize,
+    pub seed: u64,
+    pub head: [u8; 32],
+}
+
+impl Pattern {
+    // The room's first bytes, as many as are named, cut to those there are.
+    pub(crate) fn lend<'a>(&self, room: &'a mut [u8]) -> &'a mut [u8] {
+        let n = self.count.min(room.len());
+        let bytes = &mut room[..n];
+        self.fill(bytes);
+        bytes
     }
-    fill_seed(seed, bytes);
-}
 
-// The output's, which has no head.
-pub(crate) fn fill_out(line: &[u8; 496], out: &mut [u8]) {
-    fill_seed(half(line, job::OUT_SEED), out);
-}
-
-// The 32 bytes of the head, zeros behind them.
-fn fill_head(line: &[u8; 496], head: usize, bytes: &mut [u8])
-    requires { head ≤ 432 }
-{
-    let mut i = 0;
-    while i < bytes.len() {
-        bytes[i] = head_byte(line, head, i);
-        i += 1;
-    }
-}
-
-fn head_byte(line: &[u8; 496], head: usize, i: usize) -> u8
-    requires { head ≤ 432 }
-{
-    if i < 32 {
-        return byte(line, head + 2 * i);
-    }
-    0
-}
-
-// 0 and 2 give zeros, 1 ones, 3 the text 0..01, any other a linear congruence.
-fn fill_seed(seed: u32, bytes: &mut [u8]) {
-    let mut x = seed;
-    let mut i = 0;
-    while i < bytes.len() {
-        bytes[i] = shade(seed, x, bytes.len() - i);
-        x = after(x);
-        i += 1;
+    fn fill(&self, bytes: &mut [u8]) {
+        match self.seed {
+            0 => bytes.fill(0),
+            1 => bytes.fill(255),
+            2 => fill_head(&self.head, bytes),
+            3 => fill_text(bytes),
+            4..0x8000_0000 => fill_shades(self.seed, 255, bytes),
+            _ => fill_shades(self.seed, 127, bytes),
+        }
     }
 }
 
-fn after(x: u32) -> u32 {
-    ((x as u64 * 1103515245 + 12345) % 4294967296) as u32
+fn fill_head(head: &[u8; 32], bytes: &mut [u8]) {
+    let n = bytes.len().min(32);
+    bytes.fill(0);
+    bytes[..n].copy_from_slice(&head[..n]);
 }
 
-// The byte with so many to come, itself among them.
-fn shade(seed: u32, x: u32, left: usize) -> u8 {
-    if seed == 1 {
-        return 255;
+fn fill_text(bytes: &mut [u8]) {
+    bytes.fill(b'0');
+    if let Some(last) = bytes.last_mut() {
+        *last = b'1';
     }
-    if seed == 3 {
-        return if left == 1 { 49 } else { 48 };
+}
+
+fn fill_shades(seed: u64, mask: u8, bytes: &mut [u8]) {
+    let mut x = (seed % 0x1_0000_0000) as u32;
+    for byte in bytes {
+        *byte = x.to_le_bytes()[2] & mask;
+        x = x.wrapping_mul(1103515245).wrapping_add(12345);
     }
-    if seed < 3 {
-        return 0;
-    }
-    if seed < 2147483648 {
-        return (x / 65536 % 256) as u8;
-    }
-    (x / 65536 % 128) as u8
 }
 
 // Adler-32 of the bytes.
 fn sum(bytes: &[u8]) -> u32 {
-    let mut a: u32 = 1;
-    let mut b: u32 = 0;
-    let mut i = 0;
-    while i < bytes.len() {
-        a = (a + wide(bytes[i])) % 65521;
+    let mut a = 1;
+    let mut b = 0;
+    for byte in bytes {
+        a = (a + u32::from(*byte)) % 65521;
         b = (b + a) % 65521;
-        i += 1;
     }
     b * 65536 + a
 }
 
-fn wide(x: u8) -> u32
-    ensures { result < 256 }
+// The sum, and behind it sixteen bytes from one on, 0 past the end.
+pub(crate) fn tell(columns: &mut [u8], bytes: &[u8], from: usize)
+    requires { length columns.old ≡ 41 }
 {
-    x as u32
-}
-
-// The byte i places behind one, 0 past the end.
-fn byte_from(bytes: &[u8], from: usize, i: usize) -> u8 {
-    if from < bytes.len() {
-        if i < bytes.len() - from {
-            return bytes[from + i];
-        }
-    }
-    0
-}
-
-// The sum, and behind it sixteen bytes from one on.
-pub(crate) fn tell(text: &mut [u8; 232], at: usize, bytes: &[u8], from: u32)
-    requires { at ≤ 190 }
-{
-    put_half(text, at, sum(bytes));
-    let mut i = 0;
-    while i < 16 {
-        put_byte(text, at + 9 + 2 * i, byte_from(bytes, from as usize, i));
-        i += 1;
+    put(&mut columns[..8], u64::from(sum(bytes)));
+    let shown = &bytes[from.min(bytes.len())..];
+    let (pairs, _) = columns[9..].as_chunks_mut::<2>();
+    for (i, pair) in pairs.iter_mut().enumerate() {
+        put(pair, u64::from(shown.get(i).copied().unwrap_or(0)));
     }
 }

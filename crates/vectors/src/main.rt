@@ -11,35 +11,24 @@ mod operators; // the operators
 mod told; // the columns of an answer
 mod values; // conversions, status, ToInteger
 
+use crate::calls::Room;
+use crate::job::Job;
 use std::io::{self, Read, Write};
 
-// The output holds what the longest Concat gives.
 fn main(rt: HostRuntime) -> io::Result<()> {
-    let mut first = [0u8; 65544];
-    let mut second = [0u8; 65544];
-    let mut third = [0u8; 65544];
-    let mut out = [0u8; 131088];
-    answer_all(
-        &mut rt.stdin(),
-        &mut rt.stdout(),
-        &mut first,
-        &mut second,
-        &mut third,
-        &mut out,
-    )
+    let mut room = Room {
+        first: [0; 65544],
+        second: [0; 65544],
+        third: [0; 65544],
+        out: [0; 131088],
+    };
+    answer_all(&mut rt.stdin(), &mut rt.stdout(), &mut room)
 }
 
 // A line that is not whole ends the run; so does the ten millionth.
-fn answer_all(
-    input: &mut impl Read,
-    output: &mut impl Write,
-    first: &mut [u8],
-    second: &mut [u8],
-    third: &mut [u8],
-    out: &mut [u8],
-) -> io::Result<()> {
+fn answer_all(input: &mut impl Read, output: &mut impl Write, room: &mut Room) -> io::Result<()> {
     for _ in 0..10_000_000 {
-        if !answer_next(input, output, first, second, third, out)? {
+        if !answer_next(input, output, room)? {
             break;
         }
     }
@@ -50,17 +39,12 @@ fn answer_all(
 fn answer_next(
     input: &mut impl Read,
     output: &mut impl Write,
-    first: &mut [u8],
-    second: &mut [u8],
-    third: &mut [u8],
-    out: &mut [u8],
+    room: &mut Room,
 ) -> io::Result<bool> {
     let mut line = [b'0'; 496];
     if input::read_full(input, &mut line)? < 496 {
         return Ok(false);
     }
-    let mut text = [b' '; 232];
-    calls::answer(&line, first, second, third, out, &mut text);
-    output.write_all(&text)?;
+    output.write_all(&calls::answer(&Job::read(&line), room).0)?;
     Ok(true)
 }

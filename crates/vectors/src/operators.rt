@@ -1,127 +1,82 @@
 // The operators, and what they answered.
-use crate::values::{integer, length};
-use crate::{job, told};
-use expression::compare::CompareAnswer;
-use expression::concat::ConcatAnswer;
-use types::refusal::Outcome;
-use types::value::AmlValue;
+use crate::job::Job;
+use crate::told::{Given, Kind};
+use expression::concat::{self, ConcatValue};
+use expression::{buffer, compare, mid, number};
+use std::cmp::Ordering;
+use types::refusal::Refusal;
 
 // Those that need no output.
-pub(crate) fn call(
-    op: u8,
-    line: &[u8; 496],
-    first: &[u8],
-    second: &[u8],
-    third: &[u8],
-    text: &mut [u8; 232],
-) {
-    let left = job::value_of(line, job::FIRST);
-    let right = job::value_of(line, job::SECOND);
-    match op {
-        18 => integer(
-            expression::number::def_add(left, first, right, second),
-            text,
-        ),
-        19 => integer(
-            expression::number::def_and(left, first, right, second),
-            text,
-        ),
-        20 => integer(expression::number::def_increment(left, first), text),
-        21 => integer(expression::number::def_decrement(left, first), text),
-        22 => integer(
-            expression::number::def_shift_left(left, first, right, second),
-            text,
-        ),
-        23 => integer(
-            expression::number::def_shift_right(left, first, right, second),
-            text,
-        ),
-        24 => order(
-            expression::compare::compare(left, first, right, second),
-            text,
-        ),
-        _ => mid(line, first, second, third, text),
-    }
+pub(crate) fn call(job: &Job, first: &[u8], second: &[u8], third: &[u8]) -> Result<Given, Refusal> {
+    let left = job.first.value;
+    let right = job.second.value;
+    let x = match job.call {
+        18 => number::def_add(left, first, right, second)?,
+        19 => number::def_and(left, first, right, second)?,
+        20 => number::def_increment(left, first)?,
+        21 => number::def_decrement(left, first)?,
+        22 => number::def_shift_left(left, first, right, second)?,
+        23 => number::def_shift_right(left, first, right, second)?,
+        24 => return Ok(order(compare::compare(left, first, right, second)?)),
+        _ => return part(job, first, second, third),
+    };
+    Ok(Given::number(Kind::Integer, x))
 }
 
 // Those that write one.
 pub(crate) fn call_out(
-    op: u8,
-    line: &[u8; 496],
+    job: &Job,
     first: &[u8],
     second: &[u8],
     out: &mut [u8],
-    text: &mut [u8; 232],
-) {
-    let left = job::value_of(line, job::FIRST);
-    let right = job::value_of(line, job::SECOND);
-    match op {
-        26 => joined(
-            expression::concat::def_concat(left, first, right, second, out),
-            text,
-        ),
-        27 => length(
-            2,
-            expression::concat::def_concat_res(left, first, right, second, out),
-            text,
-        ),
-        _ => length(
-            2,
-            expression::buffer::def_buffer(left, first, second, out),
-            text,
-        ),
+) -> Result<Given, Refusal> {
+    let left = job.first.value;
+    let right = job.second.value;
+    let n = match job.call {
+        26 => return Ok(joined(concat::def_concat(left, first, right, second, out)?)),
+        27 => concat::def_concat_res(left, first, right, second, out)?,
+        _ => buffer::def_buffer(left, first, second, out)?,
+    };
+    Ok(Given::bytes(Kind::Buffer, n))
+}
+
+// The columns' numbers of an order.
+fn order(order: Ordering) -> Given {
+    let number = match order {
+        Ordering::Less => 0,
+        Ordering::Equal => 1,
+        Ordering::Greater => 2,
+    };
+    Given::number(Kind::Order, number)
+}
+
+fn joined(value: ConcatValue) -> Given {
+    match value {
+        ConcatValue::String(n) => Given::bytes(Kind::String, n),
+        ConcatValue::Buffer(n) => Given::bytes(Kind::Buffer, n),
     }
 }
 
-fn order(answer: CompareAnswer, text: &mut [u8; 232]) {
-    match answer {
-        CompareAnswer::Less => told::result(9, 0, 0, text),
-        CompareAnswer::Equal => told::result(9, 1, 0, text),
-        CompareAnswer::Greater => told::result(9, 2, 0, text),
-        CompareAnswer::Refused(r) => told::refused(r, text),
-    }
-}
-
-fn joined(answer: ConcatAnswer, text: &mut [u8; 232]) {
-    match answer {
-        ConcatAnswer::String(n) => told::result(5, 0, n as u64, text),
-        ConcatAnswer::Buffer(n) => told::result(2, 0, n as u64, text),
-        ConcatAnswer::Refused(r) => told::refused(r, text),
-    }
-}
-
-fn mid(line: &[u8; 496], source: &[u8], index: &[u8], count: &[u8], text: &mut [u8; 232]) {
-    let outcome = expression::mid::def_mid(
-        job::value_of(line, job::FIRST),
+fn part(job: &Job, source: &[u8], index: &[u8], count: &[u8]) -> Result<Given, Refusal> {
+    mid::def_mid(
+        job.first.value,
         source,
-        job::value_of(line, job::SECOND),
+        job.second.value,
         index,
-        job::value_of(line, job::THIRD),
+        job.third.value,
         count,
-    );
-    match outcome {
-        Outcome::Done => told::result(
-            10,
-            0,
-            mid_part(line, source, index, count).len() as u64,
-            text,
-        ),
-        Outcome::Refused(r) => told::refused(r, text),
-    }
+    )?;
+    let part = mid_part(job, source, index, count);
+    Ok(Given::bytes(Kind::Part, part.len()))
 }
 
-pub(crate) fn mid_part<'a>(
-    line: &[u8; 496],
-    source: &'a [u8],
-    index: &[u8],
-    count: &[u8],
-) -> &'a [u8] {
-    expression::mid::def_mid_part(
-        job::value_of(line, job::FIRST),
+pub(crate) fn mid_part<'a>(job: &Job, source: &'a [u8], index: &[u8], count: &[u8]) -> &'a [u8] {
+    mid::def_mid_part(
+        job.first.value,
         source,
-        job::value_of(line, job::SECOND),
+        job.second.value,
         index,
-        job::value_of(line, job::THIRD),
+        job.third.value,
         count,
     )
 }

@@ -1,83 +1,155 @@
 // The columns of an answer: what the call gave; the same step by step; the check and the count alone.
-use crate::lines::{put_byte, put_word};
-use types::refusal::{Outcome, Refusal, Types, number, types_of};
-use types::value::type_number;
+ghost use Rattle.std.specs.Prelude.{◌≡◌, ◌+◌, ◌≤◌};
 
-pub const STATUS: usize = 0; // 0, or the refusal's number
+use crate::lent::tell;
+use crate::lines::put;
+use std::ops::Range;
+use types::refusal::{Refusal, Types, types_of};
 
-pub const PRESENT: usize = 3; // the types that it carries
+const STATUS: Range<usize> = 0..2; // 0, or the refusal's number
 
-pub const WANTED: usize = 6;
+const PRESENT: Range<usize> = 3..5; // the types that it carries
 
-pub const RESULT: usize = 9; // 1 Integer, 2 Buffer, 3 held, 4 no access left, 5 String, 6 bool, 7 status, 8 the value itself, 9 order, 10 part
+const WANTED: Range<usize> = 6..8;
 
-pub const VALUE: usize = 12;
+const RESULT: Range<usize> = 9..11;
 
-pub const COUNT: usize = 29; // of accesses, or of the result's bytes
+const VALUE: Range<usize> = 12..28;
 
-pub const FIRST: usize = 46; // the bytes lent beside the first and the second operand, after the call
+pub const COUNT: Range<usize> = 29..45; // of accesses, or of the result's bytes
 
-pub const SECOND: usize = 88;
+pub const FIRST: Range<usize> = 46..87; // the bytes lent beside the first and the second operand, after the call
 
-pub const STEP_STATUS: usize = 130;
+pub const SECOND: Range<usize> = 88..129;
 
-pub const HELD: usize = 133;
+pub const STEP_STATUS: Range<usize> = 130..132;
 
-pub const STEPS: usize = 150;
+pub const HELD: Range<usize> = 133..149;
 
-pub const CHECK_STATUS: usize = 167;
+pub const STEPS: Range<usize> = 150..166;
 
-pub const COUNT_STATUS: usize = 170;
+pub const CHECK_STATUS: Range<usize> = 167..169;
 
-pub const COUNTED: usize = 173;
+pub const COUNT_STATUS: Range<usize> = 170..172;
 
-pub const OUT: usize = 190; // the output after the call
+pub const COUNTED: Range<usize> = 173..189;
 
-// Every column 0, but those of the lent bytes.
-pub(crate) fn clear(text: &mut [u8; 232]) {
-    put_byte(text, STATUS, 0);
-    put_byte(text, PRESENT, 0);
-    put_byte(text, WANTED, 0);
-    put_byte(text, RESULT, 0);
-    put_word(text, VALUE, 0);
-    put_word(text, COUNT, 0);
-    put_byte(text, STEP_STATUS, 0);
-    put_word(text, HELD, 0);
-    put_word(text, STEPS, 0);
-    put_byte(text, CHECK_STATUS, 0);
-    put_byte(text, COUNT_STATUS, 0);
-    put_word(text, COUNTED, 0);
-    text[231] = b'\n';
+pub const OUT: Range<usize> = 190..231; // the output after the call
+
+// What a call gives is; the numbers are those of the answers (RESULTS in tests/lines.py), 0 for nothing of these.
+#[derive(Clone, Copy)]
+pub enum Kind {
+    Integer = 1,
+    Buffer = 2,
+    Held = 3,
+    NoAccess = 4,
+    String = 5,
+    Bool = 6,
+    Status = 7,
+    Itself = 8,
+    Order = 9,
+    Part = 10,
 }
 
-pub(crate) fn status_of(o: Outcome) -> u8 {
-    match o {
-        Outcome::Done => 0,
-        Outcome::Refused(r) => number(r),
+// What a call gave: a number; how many bytes, or how many accesses it took.
+#[derive(Clone, Copy, Default)]
+pub struct Given {
+    pub kind: Option<Kind>,
+    pub value: u64,
+    pub count: u64,
+}
+
+impl Given {
+    pub(crate) fn number(kind: Kind, value: u64) -> Given {
+        Given {
+            kind: Some(kind),
+            value,
+            count: 0,
+        }
     }
-}
 
-// The number, and the types that it carries.
-pub(crate) fn refused(r: Refusal, text: &mut [u8; 232]) {
-    put_byte(text, STATUS, number(r));
-    match types_of(r) {
-        Types::Nothing => {}
-        Types::Met(t) => put_byte(text, PRESENT, type_number(t)),
-        Types::Conversion { current, target } => {
-            put_byte(text, PRESENT, type_number(current));
-            put_byte(text, WANTED, type_number(target));
+    pub(crate) fn bytes(kind: Kind, count: usize) -> Given {
+        Given {
+            kind: Some(kind),
+            value: 0,
+            count: count as u64,
+        }
+    }
+
+    // A write's accesses.
+    pub(crate) fn accesses(count: u64) -> Given {
+        Given {
+            kind: None,
+            value: 0,
+            count,
         }
     }
 }
 
-pub(crate) fn outcome(o: Outcome, text: &mut [u8; 232]) {
-    if let Outcome::Refused(r) = o {
-        refused(r, text);
-    }
+// A refusal's or a type's number.
+pub(crate) fn number(x: impl Into<u8>) -> u64 {
+    u64::from(x.into())
 }
 
-pub(crate) fn result(kind: u8, value: u64, count: u64, text: &mut [u8; 232]) {
-    put_byte(text, RESULT, kind);
-    put_word(text, VALUE, value);
-    put_word(text, COUNT, count);
+// An answer's line.
+#[derive(Clone, Copy)]
+pub struct Text(pub [u8; 232]);
+
+impl Text {
+    // Every column 0, but those of the lent bytes.
+    pub(crate) fn blank() -> Text {
+        let mut text = Text([b' '; 232]);
+        text.put(STATUS, 0);
+        text.put(PRESENT, 0);
+        text.put(WANTED, 0);
+        text.put(RESULT, 0);
+        text.put(VALUE, 0);
+        text.put(COUNT, 0);
+        text.put(STEP_STATUS, 0);
+        text.put(HELD, 0);
+        text.put(STEPS, 0);
+        text.put(CHECK_STATUS, 0);
+        text.put(COUNT_STATUS, 0);
+        text.put(COUNTED, 0);
+        text.0[231] = b'\n';
+        text
+    }
+
+    // The number into these columns.
+    pub(crate) fn put(&mut self, columns: Range<usize>, x: u64)
+        requires { (columns.start ≤ columns.end) × (columns.end ≤ 232) }
+    {
+        put(&mut self.0[columns], x);
+    }
+
+    // What is told of bytes into these columns.
+    pub(crate) fn tell(&mut self, columns: Range<usize>, bytes: &[u8], from: usize)
+        requires { (columns.end ≡ columns.start + 41) × (columns.end ≤ 232) }
+    {
+        tell(&mut self.0[columns], bytes, from);
+    }
+
+    // What the call gave, or the refusal's number and the types that it carries.
+    pub(crate) fn answer(&mut self, answered: Result<Given, Refusal>) {
+        match answered {
+            Ok(given) => {
+                self.put(RESULT, given.kind.map_or(0, |kind| kind as u64));
+                self.put(VALUE, given.value);
+                self.put(COUNT, given.count);
+            }
+            Err(r) => self.refused(r),
+        }
+    }
+
+    fn refused(&mut self, r: Refusal) {
+        self.put(STATUS, number(r));
+        match types_of(r) {
+            Types::Nothing => {}
+            Types::Met(t) => self.put(PRESENT, number(t)),
+            Types::Conversion { current, target } => {
+                self.put(PRESENT, number(current));
+                self.put(WANTED, number(target));
+            }
+        }
+    }
 }

@@ -1,25 +1,19 @@
--- `buffer_field::write_buffer_field_self` meets its contract: each return is a case of writing a Buffer, whose bytes are the buffer's own.
+-- `buffer_field::write_buffer_field_self` meets its contract: by what checking the place answered, which has seen the length of its bytes.
 -- Assumes nothing.
+use mathlib.Core.Path.{refl, sym, ◌∙◌}
+use Rattle.std.proofs.lemmas.Result.{err_from_is_err_and}
+use Rattle.types.specs.declared.value.AmlValue.TheVariants as Val
 use Rattle.bits.specs.Bits.{bit_at}
-use mathlib.Core.Path.{refl, ◌∙◌}
-use Rattle.buffer_field.proofs.Writing.{over_outside, over_done, write_too_long, write_bits}
+use Rattle.buffer_field.proofs.Writing.{self_short, self_refused, write_done}
 use Rattle.buffer_field.proofs.write_buffer_field_self.Goals as goal
 
-pub returns-then-buffer-gt65536 : goal.returns-then-buffer-gt65536
-returns-then-buffer-gt65536 c = search write_too_long
-
-pub returns-then-out_of_bounds : goal.returns-then-out_of_bounds
-returns-then-out_of_bounds c =
-    let a = c.args in
-    let s = a.buffer.now in
-    let l = c.if-buffer-gt65536.false in
-    over_outside s a.offset a.length a.length (bit_at s) _ c.out_of_bounds.ensures c.if-out_of_bounds.true
-    ∙ write_bits s s a.offset a.length _ l l a.length (bit_at s) refl
+pub returns-in_err-check_buffer_field : goal.returns-in_err-check_buffer_field
+returns-in_err-check_buffer_field c =
+    let p = err_from_is_err_and c.from_residual.result c.from_residual.ensures.1 in
+    rw (p.1, p.2) (self_refused _ _ _ _ (sym c.check_buffer_field.ensures ∙ c.in_err-check_buffer_field.was))
 
 pub returns : goal.returns
 returns c =
     let a = c.args in
-    let s = a.buffer.now in
-    let l = c.if-buffer-gt65536.false in
-    over_done s a.offset a.length a.length (bit_at s) _ c.out_of_bounds.ensures c.if-out_of_bounds.false _ c.write_self.ensures
-    ∙ write_bits s s a.offset a.length _ l l a.length (bit_at s) refl
+    let d = sym c.check_buffer_field.ensures ∙ c.in_ok-check_buffer_field.was in
+    write_done a.buffer.now a.buffer.now a.offset a.length Val.Buffer (self_short a.buffer.now a.offset a.length d) a.length (bit_at a.buffer.now) refl d _ c.write_self.ensures

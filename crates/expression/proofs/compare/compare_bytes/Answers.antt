@@ -1,24 +1,19 @@
-use Rattle.std.proofs.Common.{refl, arith, rules}
-use Rattle.expression.proofs.Comparing.{right_ends, byte_less, byte_greater, byte_same, left_ends, both_end}
+-- `compare::compare_bytes` meets its contract: what the words left over is ordered as the library orders slices.
+-- Assumes nothing.
+use mathlib.Core.Path.{ap, ◌∙◌}
+use Prim.Native.Nat.{◌-◌}
+use native.Mathlib.Omega.{arith}
+use lib.ListN.{length, drop, length-drop}
+use lib.Seq.{take_all}
+use Rattle.std.specs.Prelude.{Ok}
+use Rattle.expression.proofs.Comparing.{in_order}
 use Rattle.expression.proofs.compare.compare_bytes.Goals as goal
 
-pub loop-i-init : goal.loop-i-init
-loop-i-init c = (c.same_words-i.ensures.0, c.same_words-i.ensures.1, c.same_words-i.ensures.2)
-
-pub returns-then-t-i : goal.returns-then-t-i
-returns-then-t-i c = search right_ends
-
-pub returns-then-x-y : goal.returns-then-x-y
-returns-then-x-y c = byte_less _ _ _ c.loop-i.invariant.2 c.loop-i-test.true c.if-t-i.false _ _ refl refl c.if-x-y.true
-
-pub returns-then-y-x : goal.returns-then-y-x
-returns-then-y-x c = byte_greater _ _ _ c.loop-i.invariant.2 c.loop-i-test.true c.if-t-i.false _ _ refl refl c.if-y-x.true
-
-pub loop-i-preserved : goal.loop-i-preserved
-loop-i-preserved c = (search rules, search rules, byte_same _ _ _ c.loop-i.invariant.2 c.loop-i-test.true c.if-t-i.false _ _ refl refl c.if-x-y.false c.if-y-x.false)
-
-pub returns-then-s-t : goal.returns-then-s-t
-returns-then-s-t c = left_ends _ _ _ c.loop-i.invariant.2 c.loop-i-test.false (omega arith)
-
 pub returns : goal.returns
-returns c = both_end _ _ _ c.loop-i.invariant.2 c.loop-i-test.false (omega arith)
+returns c =
+    let s = c.args.s.now in
+    let t = c.args.t.now in
+    let n = c.same_words-n.result in
+    ap Ok c.cmp.ensures
+    ∙ rw (take_all (length s - n) (drop n s) (omega (arith, length-drop n s)), take_all (length t - n) (drop n t) (omega (arith, length-drop n t))) (in_order (drop n s) (drop n t))
+    ∙ c.same_words-n.ensures.2

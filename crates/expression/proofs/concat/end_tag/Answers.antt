@@ -1,6 +1,7 @@
 -- `concat::end_tag` meets its contract: the two bytes behind the first n, the second from their sum.
 -- Assumes nothing.
 use Rattle.std.proofs.Common.{arith, length-set, length-take, rules}
+use mathlib.Core.Path.{refl}
 use Rattle.expression.proofs.Resources.{end_done}
 use Rattle.expression.proofs.concat.end_tag.Goals as goal
 
@@ -11,4 +12,4 @@ pub bounds-out-n-2 : goal.bounds-out-n-2
 bounds-out-n-2 c = simp length-set (omega arith)
 
 pub returns : goal.returns
-returns c = end_done c.args.out.now c.args.n _ _ _ c.requires c.sum.ensures c.wrapping_add_u8-total.ensures.value c.wrapping_sub_u8.ensures.value (search rules)
+returns c = end_done c.args.out.now c.args.n _ _ _ c.requires c.sum-total.ensures refl c.wrapping_neg.ensures (search rules)

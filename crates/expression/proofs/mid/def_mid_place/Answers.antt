@@ -1,20 +1,22 @@
--- `mid::def_mid_place` meets its contract: each return is a case of Mid, in the order index, length, source.
+-- `mid::def_mid_place` meets its contract: 27, what an operand refuses, 5, or the place.
 -- Assumes nothing.
 use borrow.Enum.Refused.{opened}
-use Rattle.expression.proofs.Slicing.{place_long, place_refused, place_string, place_buffer, place_other}
+use Rattle.std.proofs.lemmas.Result.{err_from_is_err_and}
+use Rattle.expression.proofs.Slicing.{place_refused, place_other, place_sliced_by}
 use Rattle.expression.proofs.mid.def_mid_place.Goals as goal
 
-pub returns-then-source_bytes-gt65536 : goal.returns-then-source_bytes-gt65536
-returns-then-source_bytes-gt65536 c = search place_long
+pub returns-in_err-at : goal.returns-in_err-at
+returns-in_err-at c =
+    let p = err_from_is_err_and c.from_residual.result c.from_residual.ensures.1 in
+    let w = c.in_err-at.was in
+    rw (p.1, p.2) (search place_refused)
 
 pub returns-in-String : goal.returns-in-String
-returns-in-String c = search place_string
-
-pub returns-in-Buffer : goal.returns-in-Buffer
-returns-in-Buffer c = search place_buffer
+returns-in-String c =
+    let w0 = c.in_ok-at.was in
+    search place_sliced_by
 
 pub returns-in_default : goal.returns-in_default
-returns-in_default c = search (place_other, opened)
-
-pub returns-in-Refused : goal.returns-in-Refused
-returns-in-Refused c = search place_refused
+returns-in_default c =
+    let w0 = c.in_ok-at.was in
+    search (place_other, opened)

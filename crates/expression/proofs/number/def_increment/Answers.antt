@@ -1,12 +1,15 @@
--- `number::def_increment` meets its contract: what converting gives goes through the operator, what it refuses is answered as it is.
+-- `number::def_increment` meets its contract: the number and 1, or what converting refused.
 -- Assumes nothing.
+use mathlib.Core.Path.{refl, sym, ◌∙◌}
+use Rattle.std.proofs.lemmas.Result.{err_from_is_err_and}
 use Rattle.expression.proofs.Numbers.{unary_refused, unary_number}
-use Rattle.std.proofs.Common.{ap}
-use Rattle.value.specs.declared.convert.IntegerAnswer.TheVariants as IA
 use Rattle.expression.proofs.number.def_increment.Goals as goal
 
-pub returns-in_default : goal.returns-in_default
-returns-in_default c = search unary_refused
+pub returns-in_err-x : goal.returns-in_err-x
+returns-in_err-x c =
+    let p = err_from_is_err_and c.from_residual.result c.from_residual.ensures.1 in
+    rw (p.1, p.2) (sym c.in_err-x.was ∙ unary_refused _ _ _ _ c.as_integer.ensures _ c.in_err-x.was)
 
 pub returns : goal.returns
-returns c = unary_number _ _ _ _ c.as_integer-number.ensures _ c.in-Integer.is _ (ap IA.Integer c.wrapping_add_u64.ensures.value)
+returns c =
+    unary_number _ _ _ _ c.as_integer.ensures _ c.in_ok-x.was _ refl

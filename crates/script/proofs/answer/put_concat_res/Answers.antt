@@ -8,20 +8,20 @@ use borrow.Author.Rules.{rules}
 use Rattle.script.proofs.answer.put_concat_res.Goals as goal
 
 pub slice_bounds-room-end : goal.slice_bounds-room-end
-slice_bounds-room-end c = (resources_bytes _ _ _ _ c.requires.1 c.requires.2 _ _ refl _ c.def_concat_res-answer.ensures _ c.in-Length.is).2
+slice_bounds-room-end c = (resources_bytes _ _ _ _ c.args.a.short c.args.b.short _ _ refl _ c.def_concat_res-answer.ensures _ c.in-Ok.is).2
 
-pub slice_bounds-put_hex-end-in-Length : goal.slice_bounds-put_hex-end-in-Length
-slice_bounds-put_hex-end-in-Length c =
-    let i = resources_bytes _ _ _ _ c.requires.1 c.requires.2 _ _ refl _ c.def_concat_res-answer.ensures _ c.in-Length.is in
+pub slice_bounds-put_hex-end-in-Ok : goal.slice_bounds-put_hex-end-in-Ok
+slice_bounds-put_hex-end-in-Ok c =
+    let i = resources_bytes _ _ _ _ c.args.a.short c.args.b.short _ _ refl _ c.def_concat_res-answer.ensures _ c.in-Ok.is in
     simp length-take (omega arith)
 
 pub put_hex-requires : goal.put_hex-requires
 put_hex-requires c =
-    let i = resources_bytes _ _ _ _ c.requires.1 c.requires.2 _ _ refl _ c.def_concat_res-answer.ensures _ c.in-Length.is in
-    (c.requires.0, search rules, simp length-take (omega arith))
+    let i = resources_bytes _ _ _ _ c.args.a.short c.args.b.short _ _ refl _ c.def_concat_res-answer.ensures _ c.in-Ok.is in
+    (c.requires, search rules, simp length-take (omega arith))
 
-pub returns-in-Length : goal.returns-in-Length
-returns-in-Length c = rw (resources_bytes _ _ _ _ c.requires.1 c.requires.2 _ _ refl _ c.def_concat_res-answer.ensures _ c.in-Length.is).0 c.put_hex.ensures
+pub returns-in-Ok : goal.returns-in-Ok
+returns-in-Ok c = rw (resources_bytes _ _ _ _ c.args.a.short c.args.b.short _ _ refl _ c.def_concat_res-answer.ensures _ c.in-Ok.is).0 c.put_hex.ensures
 
-pub returns-in-Refused : goal.returns-in-Refused
-returns-in-Refused c = rw (resources_refused _ _ _ _ c.requires.1 c.requires.2 _ _ refl _ c.def_concat_res-answer.ensures _ c.in-Refused.is) c.put_refusal.ensures
+pub returns-in-Err : goal.returns-in-Err
+returns-in-Err c = rw (resources_refused _ _ _ _ c.args.a.short c.args.b.short _ _ refl _ c.def_concat_res-answer.ensures _ c.in-Err.is) c.put_refusal.ensures

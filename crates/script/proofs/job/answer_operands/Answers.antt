@@ -1,69 +1,66 @@
 -- `job::answer_operands` meets its contract: each return is a case of the three operand lines.
 -- Assumes nothing.
-use Rattle.script.proofs.Jobs.{stepped_as, wrong_a, inside_a, wrong_b, inside_b, wrong_c, inside_c, operands_done}
+use Rattle.script.proofs.Jobs.{wrong_a, inside_a, wrong_b, inside_b, wrong_c, inside_c, operands_done}
 use lib.ListN.{length-take}
+use mathlib.Core.Path.{refl}
 use native.Mathlib.Omega.{arith}
 use borrow.Author.Rules.{rules}
 use Rattle.script.proofs.job.answer_operands.Goals as goal
 
-pub returns-in_default : goal.returns-in_default
-returns-in_default c = stepped_as _ _ _ _ _ _ _ _ (wrong_a _ _ _ _ _ c.operand_line-first.ensures c.in_default.is) c.stop.ensures
+pub returns-in_err-first : goal.returns-in_err-first
+returns-in_err-first c = rw c.from_residual.ensures (refl, wrong_a _ _ _ _ _ c.operand_line.ensures c.in_err-first.was)
 
 pub slice_bounds-operand_line-count : goal.slice_bounds-operand_line-count
 slice_bounds-operand_line-count c =
-    let i = inside_a c.args.op c.args.used c.args.s.now _ _ c.operand_line-first.ensures _ _ _ c.in-Is.is in
+    let i = inside_a c.args.op c.args.used c.args.s.now _ _ c.operand_line.ensures _ c.in_ok-first.was in
     search rules
 
-pub returns-in_default-second : goal.returns-in_default-second
-returns-in_default-second c = stepped_as _ _ _ _ _ _ _ _ (wrong_b _ _ _ _ _ c.operand_line-first.ensures _ _ _ c.in-Is.is _ _ c.operand_line-second.ensures c.in_default-second.is) c.stop-in_default-second.ensures
+pub returns-in_err-second : goal.returns-in_err-second
+returns-in_err-second c = rw c.from_residual-in_err-second.ensures (refl, wrong_b _ _ _ _ _ c.operand_line.ensures _ c.in_ok-first.was _ _ c.operand_line-2.ensures c.in_err-second.was)
 
 pub overflow_add-from : goal.overflow_add-from
 overflow_add-from c =
-    let i = inside_a c.args.op c.args.used c.args.s.now _ _ c.operand_line-first.ensures _ _ _ c.in-Is.is in
-    let j = inside_b c.args.op c.args.used c.args.s.now _ _ c.operand_line-first.ensures _ _ _ c.in-Is.is _ _ c.operand_line-second.ensures _ _ _ c.in-Is-second.is in
+    let i = inside_a c.args.op c.args.used c.args.s.now _ _ c.operand_line.ensures _ c.in_ok-first.was in
+    let j = inside_b c.args.op c.args.used c.args.s.now _ _ c.operand_line.ensures _ c.in_ok-first.was _ _ c.operand_line-2.ensures _ c.in_ok-second.was in
     search rules
 
 pub slice_bounds-operand_line-count-2 : goal.slice_bounds-operand_line-count-2
 slice_bounds-operand_line-count-2 c =
-    let i = inside_a c.args.op c.args.used c.args.s.now _ _ c.operand_line-first.ensures _ _ _ c.in-Is.is in
-    let j = inside_b c.args.op c.args.used c.args.s.now _ _ c.operand_line-first.ensures _ _ _ c.in-Is.is _ _ c.operand_line-second.ensures _ _ _ c.in-Is-second.is in
+    let i = inside_a c.args.op c.args.used c.args.s.now _ _ c.operand_line.ensures _ c.in_ok-first.was in
+    let j = inside_b c.args.op c.args.used c.args.s.now _ _ c.operand_line.ensures _ c.in_ok-first.was _ _ c.operand_line-2.ensures _ c.in_ok-second.was in
     search rules
 
-pub returns-in_default-third : goal.returns-in_default-third
-returns-in_default-third c = stepped_as _ _ _ _ _ _ _ _ (wrong_c _ _ _ _ _ c.operand_line-first.ensures _ _ _ c.in-Is.is _ _ c.operand_line-second.ensures _ _ _ c.in-Is-second.is _ _ c.operand_line-third.ensures c.in_default-third.is) c.stop-in_default-third.ensures
+pub returns-in_err-third : goal.returns-in_err-third
+returns-in_err-third c =
+    rw c.from_residual-in_err-third.ensures (refl, wrong_c _ _ _ _ _ c.operand_line.ensures _ c.in_ok-first.was _ _ c.operand_line-2.ensures _ c.in_ok-second.was _ _ c.operand_line-3.ensures c.in_err-third.was)
 
 pub slice_bounds-x-end : goal.slice_bounds-x-end
-slice_bounds-x-end c = omega (arith, (inside_a c.args.op c.args.used c.args.s.now _ _ c.operand_line-first.ensures _ _ _ c.in-Is.is).0, c.operand_line-first.auto.scratch)
+slice_bounds-x-end c = omega (arith, (inside_a c.args.op c.args.used c.args.s.now _ _ c.operand_line.ensures _ c.in_ok-first.was).0)
 
-pub slice_bounds-answer_op-end : goal.slice_bounds-answer_op-end
-slice_bounds-answer_op-end c =
-    let i = (inside_a c.args.op c.args.used c.args.s.now _ _ c.operand_line-first.ensures _ _ _ c.in-Is.is).0 in
-    let l = c.operand_line-first.auto.scratch in
+pub slice_bounds-a-end : goal.slice_bounds-a-end
+slice_bounds-a-end c =
+    let i = (inside_a c.args.op c.args.used c.args.s.now _ _ c.operand_line.ensures _ c.in_ok-first.was).0 in
     simp length-take (omega arith)
 
 pub slice_bounds-y-end : goal.slice_bounds-y-end
-slice_bounds-y-end c = omega (arith, (inside_b c.args.op c.args.used c.args.s.now _ _ c.operand_line-first.ensures _ _ _ c.in-Is.is _ _ c.operand_line-second.ensures _ _ _ c.in-Is-second.is).0, c.operand_line-second.auto.scratch)
+slice_bounds-y-end c =
+    omega (arith, (inside_b c.args.op c.args.used c.args.s.now _ _ c.operand_line.ensures _ c.in_ok-first.was _ _ c.operand_line-2.ensures _ c.in_ok-second.was).0)
 
-pub slice_bounds-answer_op-end-2 : goal.slice_bounds-answer_op-end-2
-slice_bounds-answer_op-end-2 c =
-    let i = (inside_b c.args.op c.args.used c.args.s.now _ _ c.operand_line-first.ensures _ _ _ c.in-Is.is _ _ c.operand_line-second.ensures _ _ _ c.in-Is-second.is).0 in
-    let l = c.operand_line-second.auto.scratch in
+pub slice_bounds-b-end : goal.slice_bounds-b-end
+slice_bounds-b-end c =
+    let i = (inside_b c.args.op c.args.used c.args.s.now _ _ c.operand_line.ensures _ c.in_ok-first.was _ _ c.operand_line-2.ensures _ c.in_ok-second.was).0 in
     simp length-take (omega arith)
 
 pub slice_bounds-z-end : goal.slice_bounds-z-end
-slice_bounds-z-end c = omega (arith, (inside_c c.args.op c.args.used c.args.s.now _ _ c.operand_line-first.ensures _ _ _ c.in-Is.is _ _ c.operand_line-second.ensures _ _ _ c.in-Is-second.is _ _ c.operand_line-third.ensures _ _ _ c.in-Is-third.is).0, c.operand_line-third.auto.scratch)
+slice_bounds-z-end c =
+    omega
+    (arith, (inside_c c.args.op c.args.used c.args.s.now _ _ c.operand_line.ensures _ c.in_ok-first.was _ _ c.operand_line-2.ensures _ c.in_ok-second.was _ _ c.operand_line-3.ensures _ c.in_ok-third.was).0)
 
-pub slice_bounds-answer_op-end-3 : goal.slice_bounds-answer_op-end-3
-slice_bounds-answer_op-end-3 c =
-    let i = (inside_c c.args.op c.args.used c.args.s.now _ _ c.operand_line-first.ensures _ _ _ c.in-Is.is _ _ c.operand_line-second.ensures _ _ _ c.in-Is-second.is _ _ c.operand_line-third.ensures _ _ _ c.in-Is-third.is).0 in
-    let l = c.operand_line-third.auto.scratch in
+pub slice_bounds-c-end : goal.slice_bounds-c-end
+slice_bounds-c-end c =
+    let i = (inside_c c.args.op c.args.used c.args.s.now _ _ c.operand_line.ensures _ c.in_ok-first.was _ _ c.operand_line-2.ensures _ c.in_ok-second.was _ _ c.operand_line-3.ensures _ c.in_ok-third.was).0 in
     simp length-take (omega arith)
 
-pub answer_op-next-requires : goal.answer_op-next-requires
-answer_op-next-requires c =
-    let i = (inside_a c.args.op c.args.used c.args.s.now _ _ c.operand_line-first.ensures _ _ _ c.in-Is.is).0 in
-    let j = (inside_b c.args.op c.args.used c.args.s.now _ _ c.operand_line-first.ensures _ _ _ c.in-Is.is _ _ c.operand_line-second.ensures _ _ _ c.in-Is-second.is).0 in
-    (c.requires.0, simp length-take (omega arith), simp length-take (omega arith))
-
 pub returns : goal.returns
-returns c = operands_done _ _ _ _ _ c.operand_line-first.ensures _ _ _ c.in-Is.is _ _ c.operand_line-second.ensures _ _ _ c.in-Is-second.is _ _ c.operand_line-third.ensures _ _ _ c.in-Is-third.is _ _ _ _ c.answer_op-next.ensures
+returns c =
+    operands_done _ _ _ _ _ c.operand_line.ensures _ c.in_ok-first.was _ _ c.operand_line-2.ensures _ c.in_ok-second.was _ _ c.operand_line-3.ensures _ c.in_ok-third.was _ _ c.answer_op.ensures

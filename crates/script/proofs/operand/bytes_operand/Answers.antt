@@ -3,8 +3,8 @@
 use Rattle.script.proofs.Reading.{pairs_read, pairs_not}
 use Rattle.script.proofs.operand.bytes_operand.Goals as goal
 
-pub returns-in-Is : goal.returns-in-Is
-returns-in-Is c = pairs_read _ _ _ _ (c.requires) _ c.pairs-read.ensures _ c.in-Is.is
+pub returns-in_err-count : goal.returns-in_err-count
+returns-in_err-count c = rw c.from_residual.ensures (pairs_not _ _ _ _ c.told-scratch c.in_err-count.ensures)
 
-pub returns-in-Bad : goal.returns-in-Bad
-returns-in-Bad c = pairs_not _ _ _ _ (c.requires) _ c.pairs-read.ensures c.in-Bad.is
+pub returns : goal.returns
+returns c = pairs_read _ _ _ _ c.told-scratch _ c.in_ok-count.ensures

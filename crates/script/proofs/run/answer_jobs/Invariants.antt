@@ -3,11 +3,18 @@
 -- Assumes nothing.
 use Rattle.script.proofs.Running.{Left}
 use lib.ListN.{length}
+use mathlib.Core.Path.{◌≡◌}
 use Prim.Native.Nat.{◌≤◌, ◌*◌, ◌-◌}
 use Rattle.script.proofs.run.answer_jobs.Given as goal
 
 abbrev pub invariant-loop-from : goal.invariant-loop-from
-invariant-loop-from l = (l.from ≤ length l.input) × (l.at ≤ 1060 * l.from) × Left l.input l.initial.out l.out l.from l.at
+invariant-loop-from l =
+    record {
+      in_input : l.from ≤ length l.input;
+      at_most : l.answers.at ≤ 1060 * l.from;
+      same : l.answers.out.ghost_name ≡ l.initial.answers.out.ghost_name;
+      left : Left l.input l.initial.answers.out.now l.answers.out.now l.from l.answers.at;
+    }
 
 abbrev pub decreases-loop-from : goal.decreases-loop-from
 decreases-loop-from l = length l.input - l.from

@@ -1,29 +1,29 @@
--- `task::one::step_task` meets its contract: a task that passes the checks is counted, and one that is not at its end makes its next access.
+-- `task::one::step_task` meets its contract: where its checks have passed, the task makes its next access, if one is left.
 -- Assumes nothing.
-use mathlib.Core.Path.{refl}
-use Rattle.task.proofs.Answers.{step_refused, kept_refused, step_uncounted, kept_uncounted, step_past, kept_past, step_made, step_region_lem}
+use Rattle.std.proofs.Common.{◌<◌, ap, Ok}
+use native.Mathlib.Omega.{arith}
+use mathlib.Core.Path.{◌∙◌}
+use Rattle.task.proofs.Answers.{step_passed, step_past, kept_past, step_left, step_made, region_made}
 use Rattle.task.proofs.one.step_task.Goals as goal
 
-pub returns-in-Refused : goal.returns-in-Refused
-returns-in-Refused c = (search step_refused, search kept_refused)
+pub returns-in_err-held : goal.returns-in_err-held
+returns-in_err-held c = absurd (search (step_passed, c.in_ok-check_turn.was, c.in_err-held.was))
 
-pub returns-in_default-counted : goal.returns-in_default-counted
-returns-in_default-counted c = (search step_uncounted, search kept_uncounted)
+pub returns-in_default-2 : goal.returns-in_default-2
+returns-in_default-2 c =
+    let turn = c.in_ok-check_turn.was in
+    let none = c.in_ok-held.was ∙ ap Ok c.in_default-2.is in
+    (search step_past, search kept_past)
 
-pub returns-then-total-k : goal.returns-then-total-k
-returns-then-total-k c = (search step_past, search kept_past)
+pub overflow_add-made : goal.overflow_add-made
+overflow_add-made c =
+    let turn = c.in_ok-check_turn.was in
+    let some = c.in_ok-held.was ∙ ap Ok c.in-Some.is in
+    let left : c.args.k.now.made < c.in-Ok.total = search step_left in
+    omega arith
 
 pub returns : goal.returns
 returns c =
-    let a = c.args in
-    let checked = c.check_turn-checked.ensures in
-    let done = c.in_default.is in
-    let count = c.count_accesses-counted.ensures in
-    let number = c.in-Count.is in
-    let left = c.if-total-k.false in
-    let access = c.next_access.ensures in (
-      step_made a.holder a.task a.k a.region.now checked done count _ number left access
-          c.held_of-held.ensures refl
-          c.task_after.ensures c.holder_after.ensures c.answer_after.ensures,
-      step_region_lem a.holder a.task a.k a.region.now checked done count _ number left access,
-    )
+    let turn = c.in_ok-check_turn.was in
+    let some = c.in_ok-held.was ∙ ap Ok c.in-Some.is in
+    (search step_made, search region_made)

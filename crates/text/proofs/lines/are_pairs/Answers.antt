@@ -1,29 +1,18 @@
-use mathlib.Core.Path.{refl, sym, ap, ◌∙◌}
-use native.Mathlib.Omega.{arith}
-use borrow.Author.Rules.{rules}
-use Rattle.text.specs.Pairs.{are_pairs}
-use Rattle.text.proofs.HexPairs.{pairs_done, pairs_odd, pairs_no_high, pairs_no_low, pairs_step}
+-- `text::lines::are_pairs` meets its contract: no character is left over, and each is a digit.
+-- Assumes nothing.
+use Rattle.std.proofs.Common.{◌≡◌, ◌∙◌, ◌%◌, false, length, rules, arith}
+use Rattle.std.proofs.lemmas.Bool.Decides.{nat_tests}
+use Rattle.std.proofs.lemmas.Iterator.{YieldsList-from_slice}
+use Rattle.std.proofs.lemmas.Iterator.Search.{all_from_yields_List}
+use lib.Dec.{eqb}
+use Rattle.text.proofs.HexPairs.{is_hex, pairs_all, pairs_odd}
 use Rattle.text.proofs.lines.are_pairs.Goals as goal
 
-pub loop-i-init : goal.loop-i-init
-loop-i-init c = (search rules, refl)
+pub returns-then-s-eq0 : goal.returns-then-s-eq0
+returns-then-s-eq0 c =
+    all_from_yields_List is_hex _ _ _ c.all.ensures.ran (YieldsList-from_slice c.args.s.now cc) (λ x b q k. search (rules, nat_tests)) ∙ pairs_all c.args.s.now (omega arith)
 
-pub returns-then-s-i-lt2 : goal.returns-then-s-i-lt2
-returns-then-s-i-lt2 c =
-    pairs_odd c.args.s.now c.loop-i.i (omega arith) (omega arith) ∙ c.loop-i.invariant.1
-
-pub returns-then-digit-ge16 : goal.returns-then-digit-ge16
-returns-then-digit-ge16 c =
-    pairs_no_high c.args.s.now c.loop-i.i (omega arith) (omega arith) ∙ c.loop-i.invariant.1
-
-pub returns-then-digit-ge16-2 : goal.returns-then-digit-ge16-2
-returns-then-digit-ge16-2 c =
-    pairs_no_low c.args.s.now c.loop-i.i (omega arith) (omega arith) ∙ c.loop-i.invariant.1
-
-pub loop-i-preserved : goal.loop-i-preserved
-loop-i-preserved c =
-    (omega arith, pairs_step c.args.s.now c.loop-i.i (omega arith) (omega arith) (omega arith) ∙ c.loop-i.invariant.1)
-
-pub returns : goal.returns
-returns c =
-    sym (ap are_pairs (pairs_done c.args.s.now c.loop-i.i (omega arith))) ∙ c.loop-i.invariant.1
+pub returns-else-s-eq0 : goal.returns-else-s-eq0
+returns-else-s-eq0 c =
+    let e : eqb (length c.args.s.now % 2) 0 ≡ false = grind (arith, nat_tests) in
+    e ∙ pairs_odd c.args.s.now (omega arith)

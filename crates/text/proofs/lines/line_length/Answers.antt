@@ -1,20 +1,9 @@
-use mathlib.Core.Path.{◌∙◌}
-use native.Mathlib.Omega.{arith}
-use borrow.Author.Rules.{rules}
-use Rattle.text.proofs.FirstLines.{line_step, line_found, line_none, line_all}
+use Rattle.std.proofs.Common.{◌==◌, ◌∙◌, rules}
+use Rattle.std.proofs.lemmas.Iterator.{YieldsList-from_slice}
+use Rattle.std.proofs.lemmas.Iterator.Search.{position_from_yields_List}
+use Rattle.text.proofs.FirstLines.{line_position}
 use Rattle.text.proofs.lines.line_length.Goals as goal
-
-pub loop-i-init : goal.loop-i-init
-loop-i-init c = (search rules, line_all c.args.s.now)
-
-pub returns-then-s-i-eq10 : goal.returns-then-s-i-eq10
-returns-then-s-i-eq10 c =
-    line_found c.args.s.now c.loop-i.i (omega arith) (omega arith) ∙ c.loop-i.invariant.1
-
-pub loop-i-preserved : goal.loop-i-preserved
-loop-i-preserved c =
-    (omega arith, line_step c.args.s.now c.loop-i.i (omega arith) (λ e. omega arith) ∙ c.loop-i.invariant.1)
 
 pub returns : goal.returns
 returns c =
-    line_none c.args.s.now c.loop-i.i (omega arith) ∙ c.loop-i.invariant.1
+    position_from_yields_List (λ x. x == 10) _ _ _ c.position.ensures.ran (YieldsList-from_slice c.args.s.now cc) (λ x b q k. search rules) ∙ line_position c.args.s.now

@@ -1,36 +1,35 @@
-use mathlib.Core.Path.{◌≡◌, sym, ◌∙◌}
-use Prim.Native.Nat.{◌+◌, ◌-◌, ◌%◌}
+use mathlib.Core.Path.{◌≡◌, ap, refl, ◌∙◌}
+use Prim.Native.Nat.{ℕ, ◌+◌, ◌-◌, ◌%◌}
 use native.Mathlib.Omega.{arith}
-use borrow.Author.Rules.{rules}
-use lib.ListN.{length-set}
-use Rattle.text.proofs.Decimals.{digits_begin, digits_step, digits_end, deeper, tenth}
+use lib.ListN.{set, drop, length-set}
+use Rattle.text.proofs.Decimals.{digits_begin, digits_step, digits_end, tenth}
 use Rattle.text.proofs.written.decimal_digits.Goals as goal
 
-pub loop-left-init : goal.loop-left-init
-loop-left-init c = (search rules, search rules, digits_begin c.args.d.now c.args.n c.requires, c.requires)
+pub loop-k-init : goal.loop-k-init
+loop-k-init c = record { place = omega arith; small = omega arith; digits = digits_begin c.args.n; row = refl }
 
-pub overflow_sub-k : goal.overflow_sub-k
-overflow_sub-k c =
-    let l = c.loop-left in
-    omega (arith, deeper l.k l.left (omega arith) l.invariant.1)
+pub returns-then-left-lt10 : goal.returns-then-left-lt10
+returns-then-left-lt10 c =
+    let l = c.loop-k in
+    let e : l.k - 1 + 1 ≡ l.k = omega arith in
+    let m : 48 + l.left % 10 ≡ 48 + l.left = omega arith in
+    (ap (λ (x : ℕ). drop (l.k - 1) (set l.d (l.k - 1) x)) m ∙ digits_end l.d (l.k - 1) l.left (omega arith) (omega arith) ∙ rw e l.invariant.digits, omega arith)
 
-pub loop-left-preserved : goal.loop-left-preserved
-loop-left-preserved c =
-    let l = c.loop-left in
-    let d = deeper l.k l.left (omega arith) l.invariant.1 in
-    let e : l.k - 1 + 1 ≡ l.k = omega arith in (
-      omega arith,
-      tenth l.k l.left (omega arith) l.invariant.1,
-      rw e (digits_step l.d l.k l.left (omega arith) (omega arith) ∙ l.invariant.2),
-      length-set l.d l.k (48 + l.left % 10) ∙ l.invariant.3,
-    )
-
-pub shape_of-d : goal.shape_of-d
-shape_of-d c =
-    let l = c.loop-left in
-    length-set l.d l.k (48 + l.left) ∙ l.invariant.3 ∙ sym c.requires
+pub loop-k-preserved : goal.loop-k-preserved
+loop-k-preserved c =
+    let l = c.loop-k in
+    let e : l.k - 1 + 1 ≡ l.k = omega arith in
+    record {
+      place = omega arith;
+      small = tenth (l.k - 1) l.left (rw e l.invariant.small);
+      digits = digits_step l.d (l.k - 1) l.left (omega arith) (omega arith) ∙ rw e l.invariant.digits;
+      row = length-set l.d (l.k - 1) (48 + l.left % 10) ∙ l.invariant.row;
+    }
 
 pub returns : goal.returns
 returns c =
-    let l = c.loop-left in
-    (digits_end l.d l.k l.left (omega arith) (omega arith) ∙ l.invariant.2, omega arith)
+    let l = c.loop-k in
+    let e : l.k ≡ 1 = omega arith in
+    let s = rw e at l.invariant.small in
+    let d = rw e at l.invariant.digits in
+    (digits_end l.d 0 l.left (omega arith) (omega arith) ∙ d, omega arith)

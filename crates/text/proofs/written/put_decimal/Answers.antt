@@ -3,6 +3,7 @@
 use mathlib.Core.Path.{◌≡◌, ap, ◌∙◌}
 use Prim.Native.Nat.{◌-◌}
 use native.Mathlib.Omega.{arith}
+use borrow.Author.Rules.{rules}
 use lib.ListN.{length, drop, length-drop}
 use lib.Seq.{take_all}
 use Rattle.text.specs.Written.{over}
@@ -11,9 +12,9 @@ use Rattle.text.proofs.written.put_decimal.Goals as goal
 pub returns : goal.returns
 returns c =
     let a = c.args in
-    let k = c.decimal_digits-k.result in
-    let row = c.decimal_digits-k.new.d in
-    let long : length row ≡ 20 = c.decimal_digits-k.auto.d in
+    let k = c.decimal_digits-k.result.1 in
+    let row = c.decimal_digits-k.result.0 in
+    let long : length row ≡ 20 = search rules in
     let l = length-drop k row in
     let e = c.decimal_digits-k.ensures.0 in
     (c.put_bytes.ensures ∙ ap (over a.out.now a.at) (take_all (20 - k) (drop k row) (omega arith) ∙ e), omega (arith, ap length e))

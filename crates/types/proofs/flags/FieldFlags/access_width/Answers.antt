@@ -14,4 +14,4 @@ table = 8 ∷ 8 ∷ 16 ∷ 32 ∷ 64 ∷ 8 ∷ 0 ∷ 0 ∷ 0 ∷ 0 ∷ 0 ∷ 0 �
 
 pub returns : goal.returns
 unfolding access_width same
-returns c = c.wide.ensures ∙ table_width table tt (c.args.self.0 % 16) (search rules)
+returns c = c.from.ensures ∙ table_width table tt (c.args.self.0 % 16) (search rules)

@@ -1,9 +1,0 @@
--- The two halves side by side, lowest first (load_law). Assumes nothing.
-use native.Mathlib.Omega.{arith}
-use Rattle.bits.proofs.Words.{load_law}
-use Rattle.bits.proofs.unit.load2.Goals as goal
-
-pub returns : goal.returns
-returns c =
-    let a = c.args in
-    rw (c.load1.ensures, c.load1-2.ensures) (load_law a.s.now a.at 1 1 1 (omega arith) (omega arith) (omega arith))

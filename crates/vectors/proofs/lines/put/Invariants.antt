@@ -1,9 +1,0 @@
--- `vectors::lines::put` is safe and ends: `i` falls. Assumes nothing.
-use Rattle.std.proofs.Common.{◌≤◌}
-use Rattle.vectors.proofs.lines.put.Given as goal
-
-abbrev pub invariant-loop-i : goal.invariant-loop-i
-invariant-loop-i l = l.i ≤ l.digits
-
-abbrev pub decreases-loop-i : goal.decreases-loop-i
-decreases-loop-i l = l.i
