@@ -106,6 +106,16 @@ module _ (l r : List ℕ) (i : ℕ) (u : Undecided l r i) where
         let k : nat_cmp (length l) (length r) ≡ Or.Equal = rw (le-ltb (length l) (length r) c, eq-eqb (length l) (length r) (omega arith)) in
         ap Ok k ∙ both_end (omega arith))
 
+-- where the shorter side ends, the lengths decide
+pub ends_decide : (l r : List ℕ) (i : ℕ) → Undecided l r i → min (length l) (length r) ≤ i → i ≤ length l → i ≤ length r
+    → Ok (nat_cmp (length l) (length r)) ≡ compare_bytes l r
+ends_decide l r i u h a b =
+    lt_cases i (length l) (Ok (nat_cmp (length l) (length r)) ≡ compare_bytes l r)
+    (λ c.
+    let k : nat_cmp (length l) (length r) ≡ Or.Greater = rw (le-ltb (length l) (length r) (omega arith), ne_eqb (length l) (length r) (λ q. omega arith)) in
+    ap Ok k ∙ right_ends l r i u c (omega arith))
+    (λ c. lengths_decide l r i u c (omega arith) b)
+
 -- the order of the library's slices
 pub in_order : (s t : List ℕ) → Ok (slice_cmp nat_cmp s t) ≡ compare_bytes s t
 unfolding compare_bytes

@@ -36,7 +36,14 @@ fn compare_bytes(s: &[u8], t: &[u8]) -> Ordering
     ensures { Ok result ≡ C.compare_bytes s.now t.now }
 {
     let n = same_words(s, t);
-    s[n..].cmp(&t[n..])
+    // Not `cmp` of what is left: it tests 64 bytes together first, and the next eight decide.
+    for i in n..s.len().min(t.len()) {
+        let order = s[i].cmp(&t[i]);
+        if order.is_ne() {
+            return order;
+        }
+    }
+    s.len().cmp(&t.len())
 }
 
 // Byte i of the field of length bits at offset of t; its unused top bits are zero.

@@ -73,7 +73,7 @@ pub record Joining (s : List ℕ) (w o v k u : ℕ) : Type 0 where
   pub so_far_lem : v ≡ so_far s o k
   pub ends : u * w ≡ o + k
 
-next_begins : (w u : ℕ) → (u + 1) * w ≡ u * w + w
+pub next_begins : (w u : ℕ) → (u + 1) * w ≡ u * w + w
 next_begins w u = ap (λ (x : ℕ). x * w) (add-one u) ∙ suc-mul u w
 
 -- the first unit begins at the field's first bit or before it, and ends after it

@@ -97,7 +97,7 @@ module _ (b : ℕ) (s : List ℕ) (i acc : ℕ) (r : Reading b s i acc) where
       let f = r.fits in
       good b s r.some d (omega arith) ∙ ap Some n
 
--- ---- what `digit` says
+-- ---- what `checked_digit` says
 pub no_digit : (d : ℕ) → None ≡ cond (ltb d 16) (Some d) None → 16 ≤ d
 no_digit d e = grind (arith, nat_tests)
 

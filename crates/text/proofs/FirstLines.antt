@@ -93,7 +93,7 @@ line_from i (c ∷ s) = by (eqb c 10) (line_from (i + 1) s)
     by true ih = ap Some (sym (add-zero i))
     by false ih = ih ∙ passed_more i c (line_of s)
 
-line_all : (s : List ℕ) → passed 0 (length_of (line_of s)) ≡ length_of (line_of s)
+pub line_all : (s : List ℕ) → passed 0 (length_of (line_of s)) ≡ length_of (line_of s)
 line_all s = each (length_of (line_of s))
   where
     each : (a : Option ℕ) → passed 0 a ≡ a

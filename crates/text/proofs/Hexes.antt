@@ -1,7 +1,7 @@
 -- Hex in lower case: two digits a byte, and byte after byte.
 -- Assumes nothing.
 use mathlib.Core.Path.{◌≡◌, refl, sym, ap, ◌∙◌}
-use mathlib.Core.List.{List, [], ◌∷◌}
+use mathlib.Core.List.{List, [], ◌∷◌, ◌++◌}
 use Prim.Native.Nat.{ℕ, suc, ◌+◌, ◌*◌, ◌/◌, ◌%◌, ◌≤◌, ◌<◌}
 use native.Mathlib.Numerals.{add-one}
 use native.Mathlib.Omega.{arith}
@@ -14,6 +14,11 @@ pub hex_length : (b : List ℕ) → length (hex_text b) ≡ 2 * length b
 unfolding hex_text
 hex_length [] = refl
 hex_length (x ∷ b) = let e = hex_length b in omega arith
+
+pub hex_append : (a b : List ℕ) → hex_text (a ++ b) ≡ hex_text a ++ hex_text b
+unfolding hex_text
+hex_append [] b = refl
+hex_append (x ∷ a) b = ap (λ (t : List ℕ). hex_digit (x / 16) ∷ hex_digit (x % 16) ∷ t) (hex_append a b)
 
 -- ---- one byte more of a list, written over an output
 module _ (o : List ℕ) (at : ℕ) (b : List ℕ) (i : ℕ) where

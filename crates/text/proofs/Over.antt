@@ -3,15 +3,15 @@
 use mathlib.Core.Bool.{Bool, true, false}
 use mathlib.Core.Path.{◌≡◌, refl, sym, ap, ◌∙◌}
 use mathlib.Core.List.{List, [], ◌∷◌, ◌++◌}
-use Prim.Native.Nat.{ℕ, ◌+◌, ◌-◌, ◌≤◌, min}
+use Prim.Native.Nat.{ℕ, suc, ◌+◌, ◌-◌, ◌≤◌, ◌<◌, min}
 use native.Mathlib.Nat.{add-zero, zero-add}
 use native.Mathlib.Numerals.{add-one}
 use native.Mathlib.Omega.{arith}
 use borrow.Author.Tests.{leb-true, leb-false}
 use borrow.Rule.Slice.PartMut.{put_mid}
 use lib.Dec.{leb}
-use lib.ListN.{length, set, take, drop, length-set, drop_of_length-le}
-use lib.Seq.{sets, sets-eq, set_out, length-take-le}
+use lib.ListN.{length, get_or, set, take, drop, length-set, drop_of_length-le}
+use lib.Seq.{sets, sets-eq, set_out, length-take-le, drop-cons}
 use Rattle.std.proofs.Common.{take-append-drop, drop-drop, append_assoc}
 use Rattle.text.specs.Written.{over}
 
@@ -77,3 +77,11 @@ module _ (o : List ℕ) (at : ℕ) (b : List ℕ) (n : ℕ) (e : n ≡ min (leng
       ∙ over_inside o at (take n b) (omega arith)
       ∙ append_assoc (take at o) (take n b) (drop (at + length (take n b)) o)
       ∙ ap (λ (t : List ℕ). take at o ++ (take n b ++ t)) (ap (λ (i : ℕ). drop (at + i) o) m ∙ sym (drop-drop n at o))))
+
+-- ---- one byte more of a list
+module _ (o : List ℕ) (at : ℕ) (b : List ℕ) (i : ℕ) where
+  pub over_step : i < length b → over o at (drop i b) ≡ over (set o at (get_or b i 0)) (at + 1) (drop (i + 1) b)
+  over_step h = rw (add-one i, drop-cons b i 0) (over_cons o at (get_or b i 0) (drop (suc i) b))
+
+  pub over_done : length b ≤ i → over o at (drop i b) ≡ o
+  over_done h = ap (over o at) (drop_of_length-le b h) ∙ over_none o at

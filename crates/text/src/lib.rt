@@ -8,17 +8,26 @@ pub mod written; // bytes, hex pairs, decimal numbers: what is written
 ghost use Rattle.std.specs.Prelude.{◌≡◌, ◌≤◌, cond, ltb};
 ghost use Rattle.text.specs.Texts.{digit_of, number_of};
 
-// What a character says as a digit; None where it is none.
+// What a character says as a digit; 255 where it is none.
 #[tactic(auto, unfolding(crate::specs::Texts::digit_of), using(std::proofs::lemmas::Bool::Decides::nat_tests))]
-pub fn digit(c: u8) -> Option<u8>
-    ensures { result ≡ cond (ltb (digit_of c) 16) (Some (digit_of c)) None }
+pub fn digit(c: u8) -> u64
+    ensures { (result ≡ digit_of c) × (result ≤ 255) }
 {
     match c {
-        b'0'..=b'9' => Some(c - b'0'),
-        b'A'..=b'F' => Some(c - b'A' + 10),
-        b'a'..=b'f' => Some(c - b'a' + 10),
-        _ => None,
+        b'0'..=b'9' => u64::from(c - b'0'),
+        b'A'..=b'F' => u64::from(c - b'A' + 10),
+        b'a'..=b'f' => u64::from(c - b'a' + 10),
+        _ => 255,
     }
+}
+
+// The same; None where it is none.
+#[tactic(auto, using(std::proofs::lemmas::Bool::Decides::nat_tests))]
+pub fn checked_digit(c: u8) -> Option<u8>
+    ensures { result ≡ cond (ltb (digit_of c) 16) (Some (digit_of c)) None }
+{
+    let d = digit(c);
+    if d < 16 { Some(d as u8) } else { None }
 }
 
 // The number that the digits of the base say. It stops at the first character that is none, and where 64 bits do not hold the number.
@@ -31,7 +40,7 @@ fn in_base(s: &[u8], base: u64) -> Option<u64>
     }
     let mut acc: u64 = 0;
     for &c in s {
-        let d = u64::from(digit(c)?);
+        let d = digit(c);
         if base <= d {
             return None;
         }

@@ -4,7 +4,7 @@ ghost use Rattle.text.specs.Lines.{line_of, length_of, begins};
 ghost use Rattle.text.specs.Pairs.{pairs_of, are_pairs, filled, pairs_into};
 ghost use Rattle.text.specs.Texts.{digit_of};
 
-use crate::digit;
+use crate::checked_digit;
 
 // How long is the first line, without its line feed? None where no line feed ends it.
 pub fn line_length(s: &[u8]) -> Option<usize>
@@ -25,13 +25,13 @@ fn pair_byte(high: u8, low: u8) -> u8
     requires { (digit_of high < 16) × (digit_of low < 16) }
     ensures { result ≡ digit_of high * 16 + digit_of low }
 {
-    digit(high).unwrap_or(0) * 16 + digit(low).unwrap_or(0)
+    checked_digit(high).unwrap_or(0) * 16 + checked_digit(low).unwrap_or(0)
 }
 
 fn are_pairs(s: &[u8]) -> bool
     ensures { result ≡ are_pairs (pairs_of s.now) }
 {
-    s.len() % 2 == 0 && s.iter().all(|c| digit(*c).is_some())
+    s.len() % 2 == 0 && s.iter().all(|c| checked_digit(*c).is_some())
 }
 
 // The bytes that hex pairs say, to the front of the output; how many they are. None where they are no hex pairs, or more than the output holds: it is then as it was.

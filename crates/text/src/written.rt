@@ -6,9 +6,13 @@ ghost use Rattle.text.specs.Written.{over, hex_digit, hex_text, decimal_text};
 pub fn put_bytes(out: &mut [u8], at: usize, bytes: &[u8])
     ensures { out.new ≡ over out.old at bytes.now }
 {
-    if at < out.len() {
-        let n = bytes.len().min(out.len() - at);
-        out[at..at + n].copy_from_slice(&bytes[..n]);
+    let mut p = at;
+    for &b in bytes {
+        if out.len() <= p {
+            return;
+        }
+        out[p] = b;
+        p += 1;
     }
 }
 

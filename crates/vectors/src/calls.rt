@@ -28,7 +28,7 @@ pub(crate) fn answer(job: &Job, room: &mut Room) -> Text {
     };
     let first = job.first.bytes.lend(&mut room.first);
     let second = twice.lend(&mut room.second);
-    let third = job.third.bytes.lend(&mut room.third);
+    let third = job.third.lend(&mut room.third);
     let out = job.out.lend(&mut room.out);
     let mut text = Text::blank();
     let answered = make_call(job, first, second, third, out, &mut text);

@@ -19,7 +19,7 @@ pub(crate) fn call(
         1 => unit_call(job.op(), first, second, text),
         2 => one_access(job, first),
         3 => {
-            check_and_count(job.op(), job.made, text);
+            check_and_count(job.op(), job.made(), text);
             Ok(Given::default())
         }
         4 => field_read(job, first, out),
@@ -92,7 +92,7 @@ fn steps(op: FieldOp, region: &mut [u8], text: &mut Text) {
 }
 
 fn one_access(job: &Job, region: &mut [u8]) -> Result<Given, Refusal> {
-    let next = next_access(job.op(), job.made, job.held, region)?;
+    let next = next_access(job.op(), job.made(), job.held(), region)?;
     Ok(match next {
         Some(held) => Given::number(Kind::Held, held),
         None => Given::number(Kind::NoAccess, 0),

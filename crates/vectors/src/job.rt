@@ -1,7 +1,7 @@
 // A job, as the columns of its line say it.
 ghost use Rattle.std.specs.Prelude.{◌≡◌, length};
 
-use crate::lent::Pattern;
+use crate::lent::{HEADED, Pattern};
 use crate::lines::{byte, number};
 use field_unit::access::FieldOp;
 use std::ops::Range;
@@ -56,18 +56,17 @@ pub struct Operand {
     pub bytes: Pattern,
 }
 
-// held, made: for one access alone. made: also the region's length for a check alone, and the number of a named type.
+// What most calls ask for is read once; held, made and the third value, which few do, when they are asked for: each digit costs.
 // show: where the shown bytes begin.
 #[derive(Clone, Copy)]
-pub struct Job {
+pub struct Job<'a> {
+    line: &'a [u8; 496],
     pub call: u8,
     pub writes: bool,
-    pub held: u64,
-    pub made: u64,
     pub show: usize,
     pub first: Operand,
     pub second: Operand,
-    pub third: Operand,
+    pub third: Pattern,
     pub out: Pattern,
 }
 
@@ -86,26 +85,21 @@ impl Operand {
             value: value(byte(&columns[KIND]), number_of, field),
             field,
             number: number_of,
-            bytes: Pattern {
-                count: number(&columns[COUNT]) as usize,
-                seed: number(&columns[SEED]),
-                head: head(&columns[HEAD]),
-            },
+            bytes: lent(columns),
         }
     }
 }
 
-impl Job {
-    pub(crate) fn read(line: &[u8; 496]) -> Job {
+impl<'a> Job<'a> {
+    pub(crate) fn read(line: &'a [u8; 496]) -> Job<'a> {
         Job {
+            line,
             call: byte(&line[CALL]),
             writes: byte(&line[WRITES]) != 0,
-            held: number(&line[HELD]),
-            made: number(&line[MADE]),
             show: number(&line[SHOW]) as usize,
             first: Operand::read(&line[FIRST]),
             second: Operand::read(&line[SECOND]),
-            third: Operand::read(&line[THIRD]),
+            third: lent(&line[THIRD]),
             out: Pattern {
                 count: number(&line[OUT]) as usize,
                 seed: number(&line[OUT_SEED]),
@@ -123,9 +117,26 @@ impl Job {
         }
     }
 
+    // For one access alone: what is held, and how many were made.
+    pub(crate) fn held(&self) -> u64 {
+        let line = self.line;
+        number(&line[HELD])
+    }
+
+    // Also the region's length for a check alone, and the number of a named type.
+    pub(crate) fn made(&self) -> u64 {
+        let line = self.line;
+        number(&line[MADE])
+    }
+
+    pub(crate) fn third_value(&self) -> AmlValue {
+        let line = self.line;
+        Operand::read(&line[THIRD]).value
+    }
+
     // The type whose number stands in `made`; BufferField where none has it.
     pub(crate) fn named_type(&self) -> AmlType {
-        match u8::try_from(self.made) {
+        match u8::try_from(self.made()) {
             Ok(n) => AmlType::try_from(n).unwrap_or(AmlType::BufferField),
             Err(_) => AmlType::BufferField,
         }
@@ -152,6 +163,22 @@ fn value(kind: u8, number: u64, field: FieldUnit) -> AmlValue {
         11 => AmlValue::Package,
         12 => AmlValue::PowerResource,
         _ => AmlValue::ThermalZone,
+    }
+}
+
+// The bytes of an operand. The head, half of its columns, is read where the seed names it.
+fn lent(columns: &[u8]) -> Pattern
+    requires { length columns.now ≡ 142 }
+{
+    let seed = number(&columns[SEED]);
+    Pattern {
+        count: number(&columns[COUNT]) as usize,
+        seed,
+        head: if seed == HEADED {
+            head(&columns[HEAD])
+        } else {
+            [0; 32]
+        },
     }
 }
 

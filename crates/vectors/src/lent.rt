@@ -3,6 +3,9 @@ ghost use Rattle.std.specs.Prelude.{◌≡◌, length};
 
 use crate::lines::put;
 
+// The seed that names the bytes of the head.
+pub const HEADED: u64 = 2;
+
 // So many bytes, by the jobs' seeds: 0 names zeros, 1 ones, 2 the bytes of the head with zeros behind them, 3 the text 0..01, any other a linear
 // congruence, from 2^31 on in seven bits.
 #[derive(Clone, Copy)]
@@ -25,7 +28,7 @@ impl Pattern {
         match self.seed {
             0 => bytes.fill(0),
             1 => bytes.fill(255),
-            2 => fill_head(&self.head, bytes),
+            HEADED => fill_head(&self.head, bytes),
             3 => fill_text(bytes),
             4..0x8000_0000 => fill_shades(self.seed, 255, bytes),
             _ => fill_shades(self.seed, 127, bytes),
@@ -34,9 +37,8 @@ impl Pattern {
 }
 
 fn fill_head(head: &[u8; 32], bytes: &mut [u8]) {
-    let n = bytes.len().min(32);
     bytes.fill(0);
-    bytes[..n].copy_from_slice(&head[..n]);
+    bits::bytes::copy(head, bytes);
 }
 
 fn fill_text(bytes: &mut [u8]) {

@@ -63,7 +63,7 @@ fn part(job: &Job, source: &[u8], index: &[u8], count: &[u8]) -> Result<Given, R
         source,
         job.second.value,
         index,
-        job.third.value,
+        job.third_value(),
         count,
     )?;
     let part = mid_part(job, source, index, count);
@@ -76,7 +76,7 @@ pub(crate) fn mid_part<'a>(job: &Job, source: &'a [u8], index: &[u8], count: &[u
         source,
         job.second.value,
         index,
-        job.third.value,
+        job.third_value(),
         count,
     )
 }

@@ -17,4 +17,4 @@ returns-in_err-check_buffer_field c =
 
 pub returns : goal.returns
 returns c =
-    write_done c.args.buffer.now [] c.args.offset c.args.length (Val.Boolean c.args.b) (omega arith) (min c.args.length 1) (λ _. truth c.args.b) refl (sym c.check_buffer_field.ensures ∙ c.in_ok-check_buffer_field.was) _ (c.set_bits.ensures ∙ boolean_bits c.args.buffer.now c.args.offset c.args.length _ _ c.args.b c.min.ensures c.from.ensures)
+    write_done c.args.buffer.now [] c.args.offset c.args.length (Val.Boolean c.args.b) (omega arith) (min c.args.length 1) (λ _. truth c.args.b) refl (sym c.check_buffer_field.ensures ∙ c.in_ok-check_buffer_field.was) _ (c.set_bits.ensures ∙ boolean_bits c.args.buffer.now c.args.offset c.args.length _ _ c.args.b (omega arith) c.from.ensures)

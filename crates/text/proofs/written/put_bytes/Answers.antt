@@ -1,13 +1,14 @@
--- `text::written::put_bytes` meets its contract: what fits is copied, and where nothing fits all falls past the end.
--- Assumes nothing.
-use mathlib.Core.Path.{sym}
+use mathlib.Core.Path.{sym, ◌∙◌}
 use native.Mathlib.Omega.{arith}
-use borrow.Author.Rules.{rules}
-use Rattle.text.proofs.Over.{over_copy, over_past}
+use lib.ListN.{drop}
+use Rattle.text.proofs.Over.{over_step, over_done, over_past}
 use Rattle.text.proofs.written.put_bytes.Goals as goal
 
-pub returns-then-at-out : goal.returns-then-at-out
-returns-then-at-out c = over_copy c.args.out.now c.args.at c.args.bytes.now c.min-n.result (search rules) (omega arith) _ _ (omega arith) c.copy_from_slice.ensures.after
+pub returns-then-out-p : goal.returns-then-out-p
+returns-then-out-p c = sym (over_past c.loop-b.out c.loop-b.p (drop c.loop-b.b-index c.args.bytes.now) (omega arith)) ∙ c.loop-b.invariant
 
-pub returns-else-at-out : goal.returns-else-at-out
-returns-else-at-out c = sym (over_past _ _ _ (omega arith))
+pub loop-b-preserved : goal.loop-b-preserved
+loop-b-preserved c = sym (over_step c.loop-b.out c.loop-b.p c.args.bytes.now c.loop-b.b-index (omega arith)) ∙ c.loop-b.invariant
+
+pub returns : goal.returns
+returns c = sym (over_done c.loop-b.out c.loop-b.p c.args.bytes.now c.loop-b.b-index (omega arith)) ∙ c.loop-b.invariant
