@@ -264,6 +264,20 @@ store_part s at n v b h l =
     ∙ sym (with_bits_at s (8 * at) (8 * n) g j q2))
     (λ d. part_high s (to_le_bytes w64 v) at n j l h d ∙ sym (with_bits_kept s (8 * at) (8 * n) g j q2 (b j) (λ i c e f. omega arith)))))
 
+-- n bytes from at on, and what a copy of p to the front of b leaves there
+abbrev part : List ℕ → ℕ → ℕ → List ℕ
+part s at n = take (at + n - at) (drop at s)
+
+abbrev fronted : List ℕ → List ℕ → List ℕ
+fronted p b = take (min (length p) (length b)) p ++ drop (min (length p) (length b)) b
+
+pub store_copied : (s : List ℕ) (at n v : ℕ) (t : List ℕ) → ((j : ℕ) → get_or s j 0 < 256) → n ≤ 8 → at + n ≤ length s
+    → t ≡ fronted (take n (to_le_bytes w64 v)) (part s at n) → take at s ++ (t ++ drop (at + n - at) (drop at s)) ≡ set_bits s (8 * at) (8 * n) v
+store_copied s at n v t b h l c =
+    let k : at + n - at ≡ n = omega arith in
+    let e : t ≡ take n (to_le_bytes w64 v) = c ∙ rw k (grind (arith, common_steps)) in
+    rw (k, e) (store_part s at n v b h l)
+
 -- n bytes of s, and zeros above them
 abbrev zeros : List ℕ
 zeros = 0 ∷ 0 ∷ 0 ∷ 0 ∷ 0 ∷ 0 ∷ 0 ∷ 0 ∷ []
@@ -320,6 +334,13 @@ load_part s at n x b h l q e =
     ∙ ap (run (bit_at t) 0) (sym w)
     ∙ sym (run_more (bit_at t) 0 (8 * n) (64 - 8 * n) (λ k c. padded_none s at n k l (omega arith)))
     ∙ run_ext (bit_at t) (bit_at s) 0 (8 * at) (8 * n) (λ i c. rw (zero-add i) (padded_bit s at n i l c))
+
+pub load_copied : (s : List ℕ) (at n x : ℕ) (t : List ℕ) → ((j : ℕ) → get_or s j 0 < 256) → n ≤ 8 → at + n ≤ length s
+    → x < 2 ^ 64 → t ≡ fronted (part s at n) zeros → x ≡ from_le_bytes w64 t → x ≡ run (bit_at s) (8 * at) (8 * n)
+load_copied s at n x t b h l q c e =
+    let k : at + n - at ≡ n = omega arith in
+    let f : t ≡ padded s at n = c ∙ rw k (grind (arith, common_steps)) in
+    load_part s at n x b h l q (e ∙ ap (from_le_bytes w64) f)
 
 -- n bytes by two accesses of w, at both ends
 pub load_two : (s : List ℕ) (at n w x y : ℕ) → w ≤ n → n ≤ w + w → n ≤ 8

@@ -2,24 +2,26 @@
 ghost use Rattle.std.specs.Prelude.{◌≡◌, ◌+◌, ◌-◌, ◌*◌, ◌≤◌, ◌<◌, min, length};
 ghost use Rattle.bits.specs.Bits.{get_bits, set_bits};
 
+use crate::bytes::copy;
+
 // The N bytes from at on.
-#[tactic(auto, using(crate::proofs::Words::load_part))]
+#[tactic(auto, using(crate::proofs::Words::load_copied))]
 pub(crate) fn load_n<const N: usize>(s: &[u8], at: usize) -> u64
     requires { (N ≤ 8) × (at + N ≤ length s.now) }
     ensures { result ≡ get_bits s.now (8 * at) (8 * N) }
 {
     let mut bytes = [0; 8];
-    bytes[..N].copy_from_slice(&s[at..at + N]);
+    copy(&s[at..at + N], &mut bytes);
     u64::from_le_bytes(bytes)
 }
 
 // The N bytes from at on become the lowest of v.
-#[tactic(auto, using(crate::proofs::Words::store_part))]
+#[tactic(auto, using(crate::proofs::Words::store_copied))]
 pub(crate) fn store_n<const N: usize>(s: &mut [u8], at: usize, v: u64)
     requires { (N ≤ 8) × (at + N ≤ length s.old) }
     ensures { s.new ≡ set_bits s.old (8 * at) (8 * N) v }
 {
-    s[at..at + N].copy_from_slice(&v.to_le_bytes()[..N]);
+    copy(&v.to_le_bytes()[..N], &mut s[at..at + N]);
 }
 
 // The n bytes from at on: two accesses that may overlap, since a copy of n bytes, known only as it runs, would be a call.

@@ -25,7 +25,7 @@ fn cut(size: u64, index: u64, count: u64) -> Part
 }
 
 // "index, length, 5"; 27 of any of the three first.
-#[tactic(auto, using(crate::proofs::Slicing::place_long))]
+#[tactic(auto, using(crate::proofs::Slicing::place_long, crate::proofs::Slicing::place_sliced_by))]
 pub fn def_mid_place(
     source: AmlValue,
     source_bytes: &[u8],

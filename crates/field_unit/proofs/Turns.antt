@@ -9,7 +9,7 @@ use lib.ListN.{length, length-append}
 use Rattle.bits.specs.Bits.{get_bits}
 use Rattle.field_unit.specs.Accesses.{Plan, Progress, progress, opening, base, last, partly, unit_accesses, accesses_from, accesses, gathered, act, acts, whole}
 use Rattle.field_unit.specs.declared.access.Access.{Access}
-use Rattle.field_unit.specs.declared.access.Access.TheVariants.{Store}
+use Rattle.field_unit.specs.declared.access.Access.TheVariants.{Load, Store}
 use Rattle.field_unit.proofs.Running.{acts_append}
 use Rattle.field_unit.proofs.Units.{extra, unit_partly, unit_stored, unit_count}
 use Rattle.field_unit.proofs.Listing.{from_over, from_step}
@@ -31,6 +31,13 @@ unit_done p u h s t false w b k e =
     ap (λ (l : List Access). acts p l (opening s)) (unit_stored p u w (sym b))
     ∙ ap (λ (x : ℕ). act p (Store u) (progress s x)) (sym k)
     ∙ ap opening (sym e)
+
+-- what a write's load leaves: the region as it was, and the unit held
+pub loaded : (p : Plan) (u h x : ℕ) (s t : List ℕ) → p.write ≡ true → progress t x ≡ act p (Load u) (progress s h) → (t ≡ s) × (x ≡ get_bits s (base p u) p.width)
+unfolding act
+loaded p u h x s t w e =
+    let g = get_bits s (base p u) p.width in
+    (ap (λ (y : Progress). y.region) e, ap (λ (y : Progress). y.held) e ∙ ap (λ (v : Bool). cond v g (gathered p u h g)) w)
 
 -- of a write of region s the loop stands at unit u, with region t; n are the stores of all units and the loads made
 pub record Writing (p : Plan) (s t : List ℕ) (u n : ℕ) : Type 0 where

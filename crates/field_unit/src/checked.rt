@@ -201,6 +201,7 @@ impl Checked {
     }
 
     // Makes one access. Answers what is held after it.
+    #[inline(always)]
     #[tactic(auto, unfolding(crate::specs::Accesses::act), using(crate::proofs::Parts::stores))]
     pub(crate) fn act(self, a: Access, region: &mut [u8], held: u64) -> u64
         requires { Touches self.op (unit_of a) }

@@ -3,7 +3,7 @@ ghost use Rattle.std.specs.Prelude.{◌≡◌, true, false};
 ghost use Rattle.field_unit.specs.Accesses.{whole};
 ghost use Rattle.field_unit.specs.Calls.{plan_of, count_of, read_field, write_field, wrote};
 
-use crate::access::FieldOp;
+use crate::access::{Access, FieldOp};
 use crate::checked::Checked;
 use types::refusal::Refusal;
 use types::value::FieldUnit;
@@ -45,7 +45,7 @@ impl Checked {
         for u in first..last + 1 {
             let mut held = 0;
             if self.is_partly(u) {
-                held = self.fetch(u, region);
+                held = self.act(Access::Load(u), region, held);
                 n += 1;
             }
             self.put(u, region, self.merge(u, held));

@@ -2,7 +2,7 @@
 -- Assumes nothing.
 use borrow.Enum.Refused.{opened}
 use Rattle.std.proofs.lemmas.Result.{err_from_is_err_and}
-use Rattle.expression.proofs.Slicing.{place_refused, place_other, place_sliced_by}
+use Rattle.expression.proofs.Slicing.{place_refused, place_other}
 use Rattle.expression.proofs.mid.def_mid_place.Goals as goal
 
 pub returns-in_err-at : goal.returns-in_err-at
@@ -10,11 +10,6 @@ returns-in_err-at c =
     let p = err_from_is_err_and c.from_residual.result c.from_residual.ensures.1 in
     let w = c.in_err-at.was in
     rw (p.1, p.2) (search place_refused)
-
-pub returns-in-String : goal.returns-in-String
-returns-in-String c =
-    let w0 = c.in_ok-at.was in
-    search place_sliced_by
 
 pub returns-in_default : goal.returns-in_default
 returns-in_default c =
