@@ -1,7 +1,7 @@
 -- Document 01, "Refusal numbers": "Every refusal returns its number alone (1 adds the present and wanted types; 3, 4, 5 the type met)".
 -- What a call answers, as the numbers that a host takes. Types go by ACPI's numbers, 0 where there is none.
 -- Assumes nothing.
-use Rattle.std.specs.Prelude.{ℕ, ◌+◌, Bool, cond, ⊤, Result, Ok, Err}
+use Rattle.std.specs.Prelude.{ℕ, Bool, cond, ⊤, Result, Ok, Err}
 use Rattle.types.specs.Refusals.{number_of, types_of}
 use Rattle.types.specs.Values.{type_number_of}
 use Rattle.types.specs.declared.refusal.Refusal.{Refusal}

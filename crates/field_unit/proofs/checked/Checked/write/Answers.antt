@@ -1,6 +1,8 @@
+-- `Checked::write` meets its contract: each turn makes one unit's accesses, so at the end the whole list is made, and counted.
+-- Assumes nothing.
 use mathlib.Core.Path.{◌≡◌, ◌∙◌}
 use mathlib.Core.Bool.{cond}
-use Prim.Native.Nat.{ℕ, ◌+◌, ◌*◌}
+use Prim.Native.Nat.{◌+◌}
 use native.Mathlib.Omega.{arith}
 use Rattle.bits.specs.Bits.{get_bits}
 use Rattle.field_unit.specs.Accesses.{base}
